@@ -1,0 +1,47 @@
+#!/usr/bin/env bash
+# The definitions beside the reference: writes closed equations between what the definitions of crates/theory give and what
+# the reference in rust/reference computes, and has the prover check each by computation. Run from anywhere; it needs rt and
+# cargo. Fails if an equation is refused, if there are none, or if one with a wrong number is accepted.
+set -euo pipefail
+cd "$(dirname "$0")/.."
+
+folder=target/agreement
+rm -rf "$folder"
+mkdir -p "$folder"
+
+rt check theory
+words=(-L "dependency=$PWD/target/rlib")
+for crate in theory $(sed -n 's/^theory: *//p' crates.txt); do
+    [ ! -d "target/rlib/$crate.rlib" ] || words+=(--extern "$crate=$PWD/target/rlib/$crate.rlib")
+done
+
+# Says whether the prover accepts all equations of a crate folder.
+proved() {
+    rt check "$1" "${words[@]}" > "$1.log" 2>&1 && grep -q '^logic=proved' "$1.log"
+}
+
+cargo run --quiet --release --manifest-path rust/Cargo.toml -p lomvuze-agreement -- "$folder/agreement" | tee "$folder/counts"
+count=$(cat "$folder"/agreement/specs/*.antt | grep -c '^pub equation-')
+[ "$count" -ge 500 ] || { echo "agreement: only $count equations" >&2; exit 1; }
+[ "$count" = "$(sed -n 's/^equations\t//p' "$folder/counts")" ] || { echo "agreement: $count equations were written" >&2; exit 1; }
+
+# One number off by one must be refused.
+control="$folder/control/agreement"
+mkdir -p "$control"
+cp -r "$folder/agreement/." "$control"
+printf 'pub mod %s\n' Elements Inverses Weights > "$control/specs/Lib.antt"
+awk '!done && /^pub equation-/ { $NF = $NF + 1; done = 1 } { print }' "$folder/agreement/specs/Weights.antt" > "$control/specs/Weights.antt"
+for file in "$control"/specs/*.antt; do
+    case $(basename "$file" .antt) in Lib | Elements | Inverses | Weights) ;; *) rm "$file" ;; esac
+done
+if proved "$control" || ! grep -q 'equation-0' "$control.log"; then
+    echo "agreement: a wrong number was not refused: $control.log" >&2
+    exit 1
+fi
+
+if ! proved "$folder/agreement"; then
+    grep -m 5 'error:' "$folder/agreement.log" | cut -c 1-400 >&2 || tail -5 "$folder/agreement.log" >&2
+    echo "agreement: not proved, see $folder/agreement.log" >&2
+    exit 1
+fi
+echo "agreement: $count equations proved"
