@@ -1,0 +1,14 @@
+pub mod RingLaws
+pub mod Horner
+pub mod Solver
+pub mod FieldLaws
+pub mod ListLaws
+pub mod SumLaws
+pub mod PolynomialLaws
+pub mod PowerLaws
+pub mod RootBound
+pub mod InterpolationLaws
+pub mod LagrangeLaws
+pub mod VanishingLaws
+pub mod FoldLaws
+pub mod Filling
