@@ -1,0 +1,5 @@
+pub mod Modular
+pub mod TrialDivision
+pub mod BabyBear
+pub mod Inverses
+pub mod Numbers

@@ -1,0 +1,10 @@
+pub mod Round
+pub mod Fill
+pub mod Schedule
+pub mod Copy
+pub mod Bytes
+pub mod Pad
+pub mod Blocks
+pub mod Tree
+pub mod Vectors
+pub mod DigestLaws

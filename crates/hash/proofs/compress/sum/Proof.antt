@@ -1,0 +1,89 @@
+-- `compress::sum` meets its contract. The invariant: the first i words are in place.
+-- Assumes nothing.
+use mathlib.Core.Path.{_≡_, refl}
+use mathlib.Core.List.{List}
+use Prim.Native.Nat.{ℕ, _≤_, _-_}
+use native.Mathlib.Omega.{arith}
+use borrow.Author.Needs.{needs}
+use lib.ListN.{length, take, getD, length-set}
+use Rattle.hash.specs.Word.{_⊞_}
+use Rattle.hash.specs.Sha256.{sum, upTo}
+use Rattle.hash.proofs.Fill.{fill, filled}
+use Rattle.hash.proofs.compress.sum.Statement.{statement}
+use Rattle.hash.proofs.compress.sum.Tie as tie
+
+-- word i of the sum
+abbrev at-word : List ℕ → List ℕ → ℕ → ℕ
+at-word x y i = getD x i 0 ⊞ getD y i 0
+
+abbrev Inv-loop : tie.InvT-loop
+Inv-loop x y z₀ i₀ z i = (i ≤ 8) × (length z ≡ 8) × (take i z ≡ upTo i (at-word x y))
+
+abbrev μ-loop : tie.MeasureT-loop
+μ-loop x y z₀ i₀ z i = 8 - i
+
+loop-holds : tie.Need-loop-holds Inv-loop μ-loop
+unfolding upTo
+loop-holds c = (omega arith, refl, refl)
+
+mul-add : tie.Need-mul-add Inv-loop μ-loop
+mul-add c = omega arith
+
+array-read-add : tie.Need-array-read-add Inv-loop μ-loop
+array-read-add c = omega arith
+
+mul-add-2 : tie.Need-mul-add-2 Inv-loop μ-loop
+mul-add-2 c = omega arith
+
+array-read-add-2 : tie.Need-array-read-add-2 Inv-loop μ-loop
+array-read-add-2 c = omega arith
+
+add-requires : tie.Need-add-requires Inv-loop μ-loop
+add-requires c κs = search needs
+
+mul-z : tie.Need-mul-z Inv-loop μ-loop
+mul-z c = omega arith
+
+array-write-z : tie.Need-array-write-z Inv-loop μ-loop
+array-write-z c = omega arith
+
+add-i : tie.Need-add-i Inv-loop μ-loop
+add-i c = omega arith
+
+loop-less : tie.Need-loop-less Inv-loop μ-loop
+loop-less c = omega arith
+
+loop-again : tie.Need-loop-again Inv-loop μ-loop
+loop-again c =
+    let at-loop = c .before .before in
+    let at-start = at-loop .before in (
+      omega arith,
+      simp length-set (at-loop .loop .inv .1),
+      fill (at-word (at-start .args .t1) (at-start .args .t2)) (at-loop .loop .z) (at-loop .loop .i) (c .add .result) (omega arith) (at-loop .loop .inv .2) (c .add .ensures),
+    )
+
+returns : tie.Need-returns Inv-loop μ-loop
+unfolding sum
+returns c =
+    let at-loop = c .before in
+    let at-start = at-loop .before in
+    filled (at-word (at-start .args .t1) (at-start .args .t2)) (at-loop .loop .z) (at-loop .loop .i) 8 (omega arith) (at-loop .loop .inv .1) (at-loop .loop .inv .2)
+
+pub sum-spec : {M : Type 1} → statement M
+sum-spec =
+    tie.close
+    (tie.spec
+    Inv-loop
+    μ-loop
+    loop-holds
+    mul-add
+    array-read-add
+    mul-add-2
+    array-read-add-2
+    add-requires
+    mul-z
+    array-write-z
+    add-i
+    loop-less
+    loop-again
+    returns)

@@ -1,0 +1,179 @@
+// The compression of one block: FIPS 180-4, section 6.2.2.
+ghost use mathlib.Core.Path.{_≡_};
+ghost use Prim.Native.Nat.{_*_, _≤_};
+ghost use lib.ListN.{length};
+ghost use Rattle.hash.specs.Word.{_⊞_, σ₀, σ₁};
+ghost use Rattle.hash.specs.Sha256.{schedule, roundWith, rounds, sum, compress, hash};
+use crate::message;
+use crate::word;
+
+const K: [u32; 64] = [
+    0x428a2f98,
+    0x71374491,
+    0xb5c0fbcf,
+    0xe9b5dba5,
+    0x3956c25b,
+    0x59f111f1,
+    0x923f82a4,
+    0xab1c5ed5,
+    0xd807aa98,
+    0x12835b01,
+    0x243185be,
+    0x550c7dc3,
+    0x72be5d74,
+    0x80deb1fe,
+    0x9bdc06a7,
+    0xc19bf174,
+    0xe49b69c1,
+    0xefbe4786,
+    0x0fc19dc6,
+    0x240ca1cc,
+    0x2de92c6f,
+    0x4a7484aa,
+    0x5cb0a9dc,
+    0x76f988da,
+    0x983e5152,
+    0xa831c66d,
+    0xb00327c8,
+    0xbf597fc7,
+    0xc6e00bf3,
+    0xd5a79147,
+    0x06ca6351,
+    0x14292967,
+    0x27b70a85,
+    0x2e1b2138,
+    0x4d2c6dfc,
+    0x53380d13,
+    0x650a7354,
+    0x766a0abb,
+    0x81c2c92e,
+    0x92722c85,
+    0xa2bfe8a1,
+    0xa81a664b,
+    0xc24b8b70,
+    0xc76c51a3,
+    0xd192e819,
+    0xd6990624,
+    0xf40e3585,
+    0x106aa070,
+    0x19a4c116,
+    0x1e376c08,
+    0x2748774c,
+    0x34b0bcb5,
+    0x391c0cb3,
+    0x4ed8aa4a,
+    0x5b9cca4f,
+    0x682e6ff3,
+    0x748f82ee,
+    0x78a5636f,
+    0x84c87814,
+    0x8cc70208,
+    0x90befffa,
+    0xa4506ceb,
+    0xbef9a3f7,
+    0xc67178f2,
+];
+
+// A word of the schedule from the words 16, 15, 7 and 2 before it.
+fn next_word(w16: u32, w15: u32, w7: u32, w2: u32) -> u32
+    ensures { λ r. ⌜ r ≡ σ₁ w2 ⊞ w7 ⊞ σ₀ w15 ⊞ w16 ⌝ }
+{
+    word::add(
+        word::add(
+            word::add(word::small_sigma1(w2), w7),
+            word::small_sigma0(w15),
+        ),
+        w16,
+    )
+}
+
+// The message schedule of a block.
+fn schedule(m: [u32; 16]) -> [u32; 64]
+    ensures { λ r. ⌜ r ≡ schedule m ⌝ }
+{
+    let mut w = [0u32; 64];
+    let mut t = 0;
+    while t < 16 {
+        w[t] = m[t];
+        t += 1;
+    }
+    while t < 64 {
+        w[t] = next_word(w[t - 16], w[t - 15], w[t - 7], w[t - 2]);
+        t += 1;
+    }
+    w
+}
+
+// One round, with its constant k and its word w of the schedule.
+fn round(s: [u32; 8], k: u32, w: u32) -> [u32; 8]
+    ensures { λ r. ⌜ r ≡ roundWith k w s ⌝ }
+{
+    let a = s[0];
+    let b = s[1];
+    let c = s[2];
+    let d = s[3];
+    let e = s[4];
+    let f = s[5];
+    let g = s[6];
+    let h = s[7];
+    let t1 = word::add(
+        word::add(
+            word::add(word::add(h, word::big_sigma1(e)), word::ch(e, f, g)),
+            k,
+        ),
+        w,
+    );
+    let t2 = word::add(word::big_sigma0(a), word::maj(a, b, c));
+    [word::add(t1, t2), a, b, c, word::add(d, t1), e, f, g]
+}
+
+// The working variables after the sixty-four rounds.
+fn rounds(w: [u32; 64], h: [u32; 8]) -> [u32; 8]
+    ensures { λ r. ⌜ r ≡ rounds w h 64 ⌝ }
+{
+    let k = K;
+    let mut s = h;
+    let mut t = 0;
+    while t < 64 {
+        let next = round(s, k[t], w[t]);
+        s = next;
+        t += 1;
+    }
+    s
+}
+
+// The sum of two hash values, word by word.
+fn sum(x: [u32; 8], y: [u32; 8]) -> [u32; 8]
+    ensures { λ r. ⌜ r ≡ sum x y ⌝ }
+{
+    let mut z = [0u32; 8];
+    let mut i = 0;
+    while i < 8 {
+        z[i] = word::add(x[i], y[i]);
+        i += 1;
+    }
+    z
+}
+
+// The hash value h after the block m.
+pub fn compress(h: [u32; 8], m: [u32; 16]) -> [u32; 8]
+    ensures { λ r. ⌜ r ≡ compress h m ⌝ }
+{
+    sum(rounds(schedule(m), h), h)
+}
+
+// The hash value after the first n blocks of s, where it was h before them.
+pub fn blocks(h: [u32; 8], s: &[u8], n: usize) -> [u32; 8]
+    requires { ⌜ 64 * n ≤ length (now s) ⌝ }
+    ensures { λ r. ⌜ r ≡ hash h (now (s .entry)) n ⌝ }
+{
+    let mut state = h;
+    let mut i = 0;
+    while i < n {
+        let m = message::block(s, 64 * i);
+        let next = compress(state, m);
+        state = next;
+        i += 1;
+    }
+    state
+}

@@ -1,0 +1,55 @@
+// SHA-256 (FIPS 180-4), for a message of any length, and for the leaf and the inner node of a hash tree (RFC 6962, section 2.1).
+ghost use mathlib.Core.Path.{_≡_};
+ghost use mathlib.Core.List.{_∷_, _++_};
+ghost use Prim.Native.Nat.{_^_, _<_};
+ghost use lib.ListN.{length};
+ghost use Rattle.hash.specs.Sha256.{digest};
+
+mod compress;
+mod message;
+mod word;
+
+// The initial hash value: FIPS 180-4, section 5.3.3.
+const H0: [u32; 8] = [
+    0x6a09e667,
+    0xbb67ae85,
+    0x3c6ef372,
+    0xa54ff53a,
+    0x510e527f,
+    0x9b05688c,
+    0x1f83d9ab,
+    0x5be0cd19,
+];
+
+// The digest of a message: its whole blocks, then the last blocks, which hold the padding.
+pub fn digest(msg: &[u8]) -> [u8; 32]
+    requires { ⌜ length (now msg) < 2 ^ 61 ⌝ }
+    ensures { λ r. ⌜ r ≡ digest (now (msg .entry)) ⌝ }
+{
+    let len = msg.len();
+    let h = compress::blocks(H0, msg, len / 64);
+    let start = 64 * (len / 64);
+    let mut last = [0u8; 128];
+    message::copy(&mut last, 0, &msg[start..]);
+    message::close(&mut last, len);
+    message::bytes(compress::blocks(h, &last, (len % 64 + 8) / 64 + 1))
+}
+
+// The digest of a leaf: the byte 0x00 and the four bytes of a value.
+pub fn leaf(value: [u8; 4]) -> [u8; 32]
+    ensures { λ r. ⌜ r ≡ digest (0x00 ∷ value) ⌝ }
+{
+    let mut msg = [0x00u8; 5];
+    message::copy(&mut msg, 1, &value);
+    digest(&msg)
+}
+
+// The digest of an inner node: the byte 0x01 and the digests of its two children.
+pub fn node(left: [u8; 32], right: [u8; 32]) -> [u8; 32]
+    ensures { λ r. ⌜ r ≡ digest (0x01 ∷ (left ++ right)) ⌝ }
+{
+    let mut msg = [0x01u8; 65];
+    message::copy(&mut msg, 1, &left);
+    message::copy(&mut msg, 33, &right);
+    digest(&msg)
+}

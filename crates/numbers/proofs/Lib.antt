@@ -1,0 +1,4 @@
+pub mod Bounds
+pub mod Bytes
+pub mod Filling
+pub mod Loading
