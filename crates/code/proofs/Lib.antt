@@ -1,0 +1,9 @@
+pub mod Evaluation
+pub mod Uniqueness
+pub mod Sizes
+pub mod Points
+pub mod Root
+pub mod Different
+pub mod Numbers
+pub mod Taken
+pub mod Loops

@@ -1,0 +1,12 @@
+pub mod Blocks
+pub mod Completeness
+pub mod Binding
+pub mod Strings
+pub mod Shown
+pub mod Decided
+pub mod Entries
+pub mod Levels
+pub mod Heaps
+pub mod Written
+pub mod ReadBack
+pub mod Openings

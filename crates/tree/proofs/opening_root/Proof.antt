@@ -1,0 +1,88 @@
+-- `tree::opening_root` meets its contract. The invariant: from the own digest the siblings that are left lead where the opening leads.
+use mathlib.Core.Path.{_≡_, sym, ap, _∙_}
+use mathlib.Core.List.{List}
+use Prim.Native.Nat.{ℕ, _+_, _-_, _*_, _/_, _%_, _≤_}
+use native.Mathlib.Omega.{arith}
+use lib.ListN.{length}
+use denote.Ref.{now}
+use Rattle.hash.specs.Sha256.{digest}
+use Rattle.tree.specs.Merkle.{leafString, joined, climb}
+use Rattle.tree.specs.Entry.{entry}
+use Rattle.tree.specs.Layout.{digests, openedRoot}
+use Rattle.tree.proofs.Written.{climb-step, climb-end}
+use Rattle.tree.proofs.opening_root.Statement.{statement}
+use Rattle.tree.proofs.opening_root.Tie as tie
+
+abbrev Inv-loop : tie.InvT-loop
+Inv-loop s at depth position own₀ place₀ next₀ left₀ own place next left =
+    (next + 32 * left ≤ length s) × (climb digest own place (digests s next left) ≡ openedRoot digest s at depth position)
+
+abbrev μ-loop : tie.MeasureT-loop
+μ-loop s at depth position own₀ place₀ next₀ left₀ own place next left = left
+
+value-at-requires : tie.Need-value-at-requires Inv-loop μ-loop
+value-at-requires c κs = omega arith
+
+leaf-requires : tie.Need-leaf-requires Inv-loop μ-loop
+leaf-requires c κs = tt
+
+add-next : tie.Need-add-next Inv-loop μ-loop
+add-next c = omega arith
+
+loop-holds : tie.Need-loop-holds Inv-loop μ-loop
+loop-holds c =
+    let a = c .before .before .before .args in (
+      omega arith,
+      ap (λ (own : List ℕ). climb digest own (a .position) (digests (now (a .s)) (a .at + 4) (a .depth)))
+          (c .leaf .ensures ∙ ap (λ (v : ℕ). digest (leafString (entry (a .position) v))) (c .before .value-at .ensures)),
+    )
+
+digest-at-requires : tie.Need-digest-at-requires Inv-loop μ-loop
+digest-at-requires c κs = omega arith
+
+parent-requires : tie.Need-parent-requires Inv-loop μ-loop
+parent-requires c κs = tt
+
+add-next-2 : tie.Need-add-next-2 Inv-loop μ-loop
+add-next-2 c = omega arith
+
+sub-left : tie.Need-sub-left Inv-loop μ-loop
+sub-left c = omega arith
+
+loop-less : tie.Need-loop-less Inv-loop μ-loop
+loop-less c = omega arith
+
+loop-again : tie.Need-loop-again Inv-loop μ-loop
+loop-again c =
+    let s = now (c .before .before .before .before .before .before .before .args .s) in
+    let l = c .before .before .before .loop in (
+      omega arith,
+      ap (λ (own : List ℕ). climb digest own (l .place / 2) (digests s (l .next + 32) (l .left - 1)))
+          (c .parent .ensures ∙ ap (λ (d : List ℕ). digest (joined (l .place % 2) (l .own) d)) (c .before .digest-at .ensures))
+          ∙ sym (climb-step digest s (l .own) (l .place) (l .next) (l .left) (c .before .before .loop-test .taken))
+          ∙ l .inv .1,
+    )
+
+returns : tie.Need-returns Inv-loop μ-loop
+returns c =
+    let s = now (c .before .before .before .before .before .args .s) in
+    let l = c .before .loop in
+    climb-end digest s (l .own) (l .place) (l .next) (l .left) (c .loop-test .left) ∙ l .inv .1
+
+pub opening-root-spec : {M : Type 1} → statement M
+opening-root-spec =
+    tie.close
+    (tie.spec
+    Inv-loop
+    μ-loop
+    value-at-requires
+    leaf-requires
+    add-next
+    loop-holds
+    digest-at-requires
+    parent-requires
+    add-next-2
+    sub-left
+    loop-less
+    loop-again
+    returns)

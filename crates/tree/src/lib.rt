@@ -1,0 +1,195 @@
+// The Merkle hash tree of RFC 6962, section 2.1, over lists of numbers: roots and openings.
+ghost use mathlib.Core.Path.{_≡_};
+ghost use mathlib.Core.Bool.{true};
+ghost use mathlib.Core.List.{_++_};
+ghost use Prim.Native.Nat.{_+_, _*_, _%_, _^_, _≤_, _<_};
+ghost use lib.ListN.{length, take, drop};
+ghost use lib.Seq.{sets};
+ghost use Rattle.hash.specs.Sha256.{digest};
+ghost use Rattle.numbers.specs.Numbers.{numbers, bytes4, allBelow};
+ghost use Rattle.tree.specs.Merkle.{leafString, joined, root as rootOf, subtree as subtreeOf, sibling as siblingOf};
+ghost use Rattle.tree.specs.Entry.{entry, entries};
+ghost use Rattle.tree.specs.Heap.{Holds, heapPath};
+ghost use Rattle.tree.specs.Layout.{part, openingSize, openedValue, openedRoot, flat, ownOpening, ownOpenings};
+
+// The digest of the leaf with a value at a position.
+fn leaf(position: usize, value: u32) -> [u8; 32]
+    ensures { λ r. ⌜ r ≡ digest (leafString (entry position value)) ⌝ }
+{
+    hash::leaf(numbers::bytes_of(value))
+}
+
+// The digest at a level and a place of the tree over the values.
+fn subtree(values: &[u32], level: usize, place: usize) -> [u8; 32]
+    requires { ⌜ (place + 1) * 2 ^ level ≤ length (now values) ⌝ }
+    ensures { λ r. ⌜ r ≡ subtreeOf digest (entries (now (values .entry))) level place ⌝ }
+{
+    if level == 0 {
+        return leaf(place, values[place]);
+    }
+    let l = subtree(values, level - 1, 2 * place);
+    let r = subtree(values, level - 1, 2 * place + 1);
+    hash::node(l, r)
+}
+
+// The root of the tree over 2 ^ depth values.
+pub fn root(values: &[u32], depth: usize) -> [u8; 32]
+    requires { ⌜ length (now values) ≡ 2 ^ depth ⌝ }
+    ensures { λ r. ⌜ r ≡ rootOf digest depth (entries (now (values .entry))) ⌝ }
+{
+    subtree(values, depth, 0)
+}
+
+// All digests of the tree over 2 ^ depth values: the root at 1, and the children of n at 2n and 2n + 1.
+fn nodes_of(values: &[u32], depth: usize) -> [[u8; 32]; 512]
+    requires { ⌜ (length (now values) ≡ 2 ^ depth) × (depth ≤ 8) ⌝ }
+    ensures { λ r. ⌜ Holds digest depth (entries (now (values .entry))) r ⌝ }
+{
+    let none = [0u8; 32];
+    let mut nodes = [none; 512];
+    let count = values.len();
+    let mut i = 0;
+    while i < count {
+        let d = leaf(i, values[i]);
+        nodes[count + i] = d;
+        i += 1;
+    }
+    let mut n = count - 1;
+    while 0 < n {
+        let d = hash::node(nodes[2 * n], nodes[2 * n + 1]);
+        nodes[n] = d;
+        n -= 1;
+    }
+    nodes
+}
+
+// The value of the opening at a place of the buffer.
+pub fn value_at(s: &[u8], at: usize) -> u32
+    requires { ⌜ at + 4 ≤ length (now s) ⌝ }
+    ensures { λ r. ⌜ r ≡ openedValue (now (s .entry)) at ⌝ }
+{
+    numbers::get(&s[at..at + 4], 0)
+}
+
+// The digest at a place of the buffer.
+pub fn digest_at(s: &[u8], at: usize) -> [u8; 32]
+    requires { ⌜ at + 32 ≤ length (now s) ⌝ }
+    ensures { λ r. ⌜ r ≡ part (now (s .entry)) at 32 ⌝ }
+{
+    let mut d = [0u8; 32];
+    bytes::copy(&s[at..at + 32], &mut d);
+    d
+}
+
+// The parent's digest, of the own digest at a place and its sibling's.
+fn parent(place: usize, own: [u8; 32], sibling: [u8; 32]) -> [u8; 32]
+    ensures { λ r. ⌜ r ≡ digest (joined (place % 2) own sibling) ⌝ }
+{
+    if place % 2 == 0 {
+        return hash::node(own, sibling);
+    }
+    hash::node(sibling, own)
+}
+
+// Where the opening at a place of the buffer leads for a position.
+pub fn opening_root(s: &[u8], at: usize, depth: usize, position: usize) -> [u8; 32]
+    requires { ⌜ at + openingSize depth ≤ length (now s) ⌝ }
+    ensures { λ r. ⌜ r ≡ openedRoot digest (now (s .entry)) at depth position ⌝ }
+{
+    let mut own = leaf(position, value_at(s, at));
+    let mut place = position;
+    let mut next = at + 4;
+    let mut left = depth;
+    while 0 < left {
+        let above = parent(place, own, digest_at(s, next));
+        own = above;
+        place = place / 2;
+        next += 32;
+        left -= 1;
+    }
+    own
+}
+
+// Writes a value at a place of the buffer.
+fn write_value(out: &mut [u8], at: usize, v: u32)
+    requires { ⌜ at + 4 ≤ length (now out) ⌝ }
+    ensures { λ _. ⌜ now (out .exit) ≡ take at (now (out .entry)) ++ bytes4 v ++ drop (at + 4) (now (out .entry)) ⌝ }
+{
+    numbers::put(&mut out[at..at + 4], 0, v);
+}
+
+// Writes a digest at a place of the buffer.
+pub fn write_digest(out: &mut [u8], at: usize, d: [u8; 32])
+    requires { ⌜ at + 32 ≤ length (now out) ⌝ }
+    ensures { λ _. ⌜ now (out .exit) ≡ take at (now (out .entry)) ++ d ++ drop (at + 32) (now (out .entry)) ⌝ }
+{
+    bytes::copy(&d, &mut out[at..at + 32]);
+}
+
+// The place of the other child of a place's parent.
+fn sibling(place: usize) -> usize
+    requires { ⌜ place + 1 < 2 ^ 64 ⌝ }
+    ensures { λ r. ⌜ r ≡ siblingOf place ⌝ }
+{
+    place + 1 - 2 * (place % 2)
+}
+
+// Writes the path of a position out of the digests of its tree, which has count = 2 ^ depth leaves.
+fn write_path(
+    nodes: &[[u8; 32]; 512],
+    count: usize,
+    depth: usize,
+    position: usize,
+    out: &mut [u8],
+    at: usize,
+)
+    requires { ⌜ (count ≡ 2 ^ depth) × (depth ≤ 8) × (position < count) × (at + 32 * depth ≤ length (now out)) ⌝ }
+    ensures { λ _. ⌜ now (out .exit) ≡ sets (now (out .entry)) at (flat (heapPath (now (nodes .entry)) depth position)) ⌝ }
+{
+    let mut first = count;
+    let mut left = depth;
+    let mut place = position;
+    let mut next = at;
+    while 0 < left {
+        let d = nodes[first + sibling(place)];
+        write_digest(out, next, d);
+        place = place / 2;
+        first = first / 2;
+        next += 32;
+        left -= 1;
+    }
+}
+
+// Writes the opening of a position at a place of the buffer, out of the values and the digests of their tree.
+fn write_opening(
+    values: &[u32],
+    nodes: &[[u8; 32]; 512],
+    depth: usize,
+    position: usize,
+    out: &mut [u8],
+    at: usize,
+)
+    requires { ⌜ (length (now values) ≡ 2 ^ depth) × (depth ≤ 8) × (position < 2 ^ depth) × (at + openingSize depth ≤ length (now out)) × Holds digest depth (entries (now values)) (now nodes) ⌝ }
+    ensures { λ _. ⌜ now (out .exit) ≡ sets (now (out .entry)) at (ownOpening digest depth (now (values .entry)) position) ⌝ }
+{
+    write_value(out, at, values[position]);
+    write_path(nodes, values.len(), depth, position, out, at + 4);
+}
+
+// Writes the openings of the positions in the tree over 2 ^ depth values, one after the other. They fill the buffer.
+pub fn write_openings(values: &[u32], depth: usize, positions: &[u8], out: &mut [u8])
+    requires { ⌜ (length (now values) ≡ 2 ^ depth) × (depth ≤ 8) × (allBelow (2 ^ depth) (numbers (now positions)) ≡ true) × (length (now out) ≡ length (numbers (now positions)) * openingSize depth) ⌝ }
+    ensures { λ _. ⌜ now (out .exit) ≡ ownOpenings digest depth (now (values .entry)) (numbers (now (positions .entry))) ⌝ }
+{
+    let nodes = nodes_of(values, depth);
+    let count = positions.len() / 4;
+    let size = 4 + 32 * depth;
+    let mut q = 0;
+    let mut at = 0;
+    while q < count {
+        let position = numbers::get(positions, q);
+        write_opening(values, &nodes, depth, position as usize, out, at);
+        q += 1;
+        at += size;
+    }
+}
