@@ -1,0 +1,12 @@
+pub mod R1cs
+pub mod Items
+pub mod Combination
+pub mod Folds
+pub mod Checks
+pub mod Instance
+pub mod Buffers
+pub mod Sizes
+pub mod Calls
+pub mod Selection
+pub mod Statements
+pub mod Cases

@@ -1,0 +1,76 @@
+-- The checks on sizes, numbers and circuits that several calls share (paper 01, "Checking order", 2 to 6).
+use mathlib.Core.Bool.{Bool, _&&_, _||_}
+use mathlib.Core.List.{List}
+use Prim.Native.Nat.{ℕ, suc, _+_, _-_, _*_, _%_, _^_}
+use lib.ListN.{length}
+use lib.Dec.{eqb, leb, ltb}
+use Rattle.numbers.specs.Numbers.{numbers, allBelow}
+use Rattle.field.specs.BabyBear.{p}
+use Rattle.tree.specs.Layout.{openingSize, openedValue}
+use Rattle.code.specs.Points.{isWitnessCount}
+use Rattle.theory.specs.Checks.{every}
+use Rattle.theory.specs.Buffers.{numberAt, entryCount, rowAt, columnAt, coefficientAt, itemSize, itemPart}
+
+-- ---- check 2: sizes, counts and lengths
+
+abbrev pub sizes : ℕ → ℕ → ℕ → Bool
+sizes m n k = leb m 6 && leb 1 n && leb n 64 && isWitnessCount k
+
+abbrev pub itemCountFits : ℕ → Bool
+itemCountFits l = leb 1 l && leb l 8
+
+abbrev pub positionCountFits : ℕ → ℕ → Bool
+positionCountFits k t = leb 1 t && leb t (4 * k)
+
+-- Whole entries, at most 1,024 of them.
+abbrev pub matrixFits : List ℕ → Bool
+matrixFits b = eqb (length b % 12) 0 && leb (length b) 12288
+
+abbrev pub circuitFits : List ℕ → List ℕ → List ℕ → Bool
+circuitFits a b c = matrixFits a && matrixFits b && matrixFits c
+
+abbrev pub hasLength : List ℕ → ℕ → Bool
+hasLength b size = eqb (length b) size
+
+-- ---- check 3: elements, coefficients and opened values are below p
+
+abbrev pub elementsBelow : List ℕ → Bool
+elementsBelow b = allBelow p (numbers b)
+
+abbrev pub matrixBelow : List ℕ → Bool
+matrixBelow b = every (entryCount b) (λ i. ltb (coefficientAt b i) p)
+
+abbrev pub circuitBelow : List ℕ → List ℕ → List ℕ → Bool
+circuitBelow a b c = matrixBelow a && matrixBelow b && matrixBelow c
+
+-- The numbers of an item: e, r and x.
+abbrev pub itemBelow : ℕ → ℕ → List ℕ → Bool
+itemBelow m n b = every (1 + m + n) (λ j. ltb (numberAt b j) p)
+
+abbrev pub itemsBelow : ℕ → ℕ → ℕ → List ℕ → Bool
+itemsBelow m n l items = every l (λ i. itemBelow m n (itemPart m n items i))
+
+abbrev pub openedBelow : ℕ → ℕ → List ℕ → Bool
+openedBelow depth count openings = every count (λ j. ltb (openedValue openings (j * openingSize depth)) p)
+
+-- ---- check 4: entries are inside rows and columns, and strictly ascending by row and then column
+
+abbrev pub inside : ℕ → ℕ → ℕ → List ℕ → ℕ → Bool
+inside m n k b i = ltb (rowAt b i) (2 ^ m) && ltb (columnAt b i) (n + k)
+
+abbrev pub before : List ℕ → ℕ → ℕ → Bool
+before b i j = ltb (rowAt b i) (rowAt b j) || (eqb (rowAt b i) (rowAt b j) && ltb (columnAt b i) (columnAt b j))
+
+abbrev pub matrixInOrder : ℕ → ℕ → ℕ → List ℕ → Bool
+matrixInOrder m n k b = every (entryCount b) (inside m n k b) && every (entryCount b - 1) (λ i. before b i (suc i))
+
+abbrev pub circuitInOrder : ℕ → ℕ → ℕ → List ℕ → List ℕ → List ℕ → Bool
+circuitInOrder m n k a b c = matrixInOrder m n k a && matrixInOrder m n k b && matrixInOrder m n k c
+
+-- ---- checks 5 and 6: the challenge and the positions
+
+abbrev pub challengeFits : ℕ → ℕ → Bool
+challengeFits l a = leb l a && ltb a p
+
+abbrev pub positionsBelow : ℕ → List ℕ → Bool
+positionsBelow k positions = allBelow (4 * k) (numbers positions)
