@@ -1,0 +1,7 @@
+// The checks that the calls share, and what they need of a witness: its codeword and its root.
+pub mod claims;
+pub mod elements;
+pub mod item;
+pub mod order;
+pub mod sizes;
+pub mod witness;

@@ -1,0 +1,12 @@
+pub mod Products
+pub mod Running
+pub mod Factors
+pub mod Terms
+pub mod Elements
+pub mod Newton
+pub mod Interpolation
+pub mod Reading
+pub mod Mixing
+pub mod Lent
+pub mod Quotients
+pub mod NewItem
