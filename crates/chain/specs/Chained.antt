@@ -1,0 +1,78 @@
+-- The chain of calls of the first statement (paper 01, "The words of demand 3") in lent buffers: what it answers, and what each
+-- buffer then holds. The buffer `opened` has a part for the openings of each witness, the new one's last; the buffer `openings`
+-- takes them position by position and, within one, item by item.
+use mathlib.Core.Path.{_≡_}
+use mathlib.Core.Bool.{Bool, true, false, _&&_}
+use mathlib.Core.List.{List, [], _∷_, _++_}
+use Prim.Native.Nat.{ℕ, suc, _*_}
+use lib.ListN.{length, getD}
+use Rattle.algebra.specs.Lists.{build, concatTo}
+use Rattle.tree.specs.Layout.{part, openingSize}
+use Rattle.code.specs.Points.{isWitnessCount, depth}
+use Rattle.theory.specs.Combination.{quotientSize}
+use Rattle.theory.specs.Checks.{written}
+use Rattle.theory.specs.Buffers.{itemSize, witnessPart, inOrder}
+use Rattle.theory.specs.Sizes.{itemCountFits, hasLength}
+use Rattle.theory.specs.Calls.{Folded, Opened, «open»}
+use Rattle.theory.specs.Statements.{folding, opening, chainAnswers}
+use Rattle.chain.specs.Answers.{firstRefusal}
+
+-- The bytes of the openings of one witness at t positions, and part i of the buffer `opened`.
+abbrev pub openedSize : ℕ → ℕ → ℕ
+openedSize k t = t * openingSize (depth k)
+
+abbrev pub openedPart : ℕ → ℕ → List ℕ → ℕ → List ℕ
+openedPart k t opened i = part opened (i * openedSize k t) (openedSize k t)
+
+-- Opening the witness of item i into part i of a buffer whose parts have the given size.
+abbrev pub openItem : ℕ → ℕ → ℕ → List ℕ → List ℕ → List ℕ → ℕ → Opened
+openItem k t size wits positions opened i = «open» k t (witnessPart k wits i) positions (part opened (i * size) size)
+
+-- The same for all witnesses: the items' come first, the new one last.
+abbrev pub openInto : ℕ → ℕ → ℕ → ℕ → List ℕ → List ℕ → List ℕ → List ℕ → ℕ → Opened
+openInto k t l size wits wit positions opened i =
+    «open» k t (getD (build l (witnessPart k wits) ++ (wit ∷ [])) i []) positions (part opened (i * size) size)
+
+-- Check 2 of the chain's own two buffers, opened and openings.
+abbrev pub openedFits : ℕ → ℕ → ℕ → List ℕ → List ℕ → Bool
+openedFits k l t opened openings =
+    isWitnessCount k && itemCountFits l && hasLength opened (suc l * openedSize k t) && hasLength openings (t * suc l * openingSize (depth k))
+
+pub record Chained : Type 0 where
+  pub answer : ℕ
+  pub quotient : List ℕ
+  pub item : List ℕ
+  pub wit : List ℕ
+  pub opened : List ℕ
+  pub openings : List ℕ
+
+module _ (m n k l t challenge : ℕ) (a b c items wits positions quotient item wit opened openings : List ℕ) where
+  abbrev folded : Folded
+  folded = folding m n k l t challenge a b c items wits positions quotient item wit (openedPart k t opened)
+
+  abbrev openedAt : ℕ → Opened
+  openedAt i = opening m n k l t challenge a b c items wits positions quotient item wit (openedPart k t opened) i
+
+  -- Where the chain's own two buffers do not fit, no call is made. Else the witnesses are opened if folding answers 0, and the openings
+  -- are put in order if every call so far does.
+  abbrev pub chainIf : Bool → Chained
+  chainIf false = record { answer = 2; quotient = quotient; item = item; wit = wit; opened = opened; openings = openings }
+  chainIf true = record {
+    answer = firstRefusal (chainAnswers m n k l t challenge a b c items wits positions quotient item wit (openedPart k t opened));
+    quotient = folded .quotient;
+    item = folded .item;
+    wit = folded .wit;
+    opened = written (folded .answer) (concatTo (suc l) (λ i. openedAt i .openings)) opened;
+    openings = written (firstRefusal (folded .answer ∷ build (suc l) (λ i. openedAt i .answer))) (inOrder (depth k) t l (λ i. openedAt i .openings)) openings;
+  }
+
+  unfoldable pub chain : Chained
+  chain = chainIf (openedFits k l t opened openings)
+
+-- All the lent buffers have the lengths that the sizes give.
+pub record BuffersFit (m n k l t : ℕ) (quotient item wit opened openings : List ℕ) : Type 0 where
+  pub quotient-size : length quotient ≡ 4 * quotientSize m l
+  pub item-size : length item ≡ itemSize m n
+  pub wit-size : length wit ≡ 4 * k
+  pub opened-size : length opened ≡ suc l * openedSize k t
+  pub openings-size : length openings ≡ t * suc l * openingSize (depth k)

@@ -1,0 +1,3 @@
+pub mod CastLaws
+pub mod DecideLaws
+pub mod Sized

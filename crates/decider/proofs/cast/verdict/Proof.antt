@@ -1,0 +1,86 @@
+-- `cast::verdict` meets its contract: each check's result decides whether the answer is its number.
+use mathlib.Core.Path.{_≡_, refl}
+use mathlib.Core.Bool.{true}
+use Rattle.theory.specs.Sizes.{elementsBelow}
+use Rattle.checks.proofs.Calls.{fails, passes, passed}
+use Rattle.decider.proofs.CastLaws.{CastFits, cast-fits, cast-below}
+use borrow.Author.Needs.{needs}
+use Rattle.decider.proofs.cast.verdict.Statement.{statement}
+use Rattle.decider.proofs.cast.verdict.Tie as tie
+
+-- What checks 2 and 3 show.
+fits-here : (c : tie.Else1) → (let a = c .before .before .before .before .before .before .before .before .before .args in CastFits (a .m) (a .n) (a .k) (a .r .now) (a .x .now) (a .w .now) (a .item .now))
+fits-here c =
+    let a = c .before .before .before .before .before .before .before .before .before .args in
+    cast-fits (a .m) (a .n) (a .k) (a .a .now) (a .b .now) (a .c .now) (a .r .now) (a .x .now) (a .w .now) (a .item .now) (passed (c .before .fits2 .ensures) (c .if1 .left))
+
+r-below : (c : tie.Else2) → (let a = c .before .before .before .before .before .before .before .before .before .before .before .args in elementsBelow (a .r .now) ≡ true)
+r-below c =
+    let a = c .before .before .before .before .before .before .before .before .before .before .before .args in
+    cast-below (a .m) (a .n) (a .k) (a .a .now) (a .b .now) (a .c .now) (a .r .now) (a .x .now) (a .w .now) (a .item .now) (passed (c .before .below .ensures) (c .if2 .left)) .0
+
+fits-requires : tie.Need-fits-requires
+fits-requires c κs = search needs
+
+returns : tie.Need-returns
+returns c = fails 2 _ (c .before .fits2 .ensures) (c .if1 .taken)
+
+below-requires : tie.Need-below-requires
+below-requires c κs = let h = fits-here c in (h .r-length, h .x-length, h .w-length)
+
+returns-2 : tie.Need-returns-2
+returns-2 c =
+    let c2 = c .before .before in
+    passes 2 (c2 .before .fits2 .ensures) (c2 .if1 .left) (
+    fails 3 _ (c .before .below .ensures) (c .if2 .taken))
+
+circuit-in-order-requires : tie.Need-circuit-in-order-requires
+circuit-in-order-requires c κs = let h = fits-here (c .before .before) in (h .sizes .bits, h .sizes .inputs, h .sizes .few)
+
+returns-3 : tie.Need-returns-3
+returns-3 c =
+    let c2 = c .before .before .before .before in
+    let c3 = c .before .before in
+    passes 2 (c2 .before .fits2 .ensures) (c2 .if1 .left) (
+    passes 3 (c3 .before .below .ensures) (c3 .if2 .left) (
+    fails 4 _ (c .before .circuit-in-order .ensures) (c .if3 .taken)))
+
+holds-requires : tie.Need-holds-requires
+holds-requires c κs =
+    let h = fits-here (c .before .before .before .before) in
+    ((h .sizes .bits, h .sizes .inputs, h .sizes .few, h .r-length, h .x-length, h .w-length), (r-below (c .before .before), passed (c .before .circuit-in-order .ensures) (c .if3 .left)))
+
+returns-4 : tie.Need-returns-4
+returns-4 c =
+    let c2 = c .before .before .before .before .before .before in
+    let c3 = c .before .before .before .before in
+    let c4 = c .before .before in
+    passes 2 (c2 .before .fits2 .ensures) (c2 .if1 .left) (
+    passes 3 (c3 .before .below .ensures) (c3 .if2 .left) (
+    passes 4 (c4 .before .circuit-in-order .ensures) (c4 .if3 .left) (
+    fails 11 _ (c .before .holds .ensures) (c .if4 .taken))))
+
+returns-5 : tie.Need-returns-5
+returns-5 c =
+    let c2 = c .before .before .before .before .before .before in
+    let c3 = c .before .before .before .before in
+    let c4 = c .before .before in
+    passes 2 (c2 .before .fits2 .ensures) (c2 .if1 .left) (
+    passes 3 (c3 .before .below .ensures) (c3 .if2 .left) (
+    passes 4 (c4 .before .circuit-in-order .ensures) (c4 .if3 .left) (
+    passes 11 (c .before .holds .ensures) (c .if4 .left) (
+    refl))))
+
+pub verdict-spec : {M : Type 1} → statement M
+verdict-spec =
+    tie.close
+    (tie.spec
+    fits-requires
+    returns
+    below-requires
+    returns-2
+    circuit-in-order-requires
+    returns-3
+    holds-requires
+    returns-4
+    returns-5)

@@ -1,0 +1,75 @@
+// Opening: the openings of one witness at a list of positions. Checks 2, 3 and 6.
+ghost use mathlib.Core.Path.{_≡_};
+ghost use mathlib.Core.Bool.{true, _&&_};
+ghost use Prim.Native.Nat.{_*_};
+ghost use lib.ListN.{length};
+ghost use Rattle.numbers.specs.Numbers.{numbers};
+ghost use Rattle.tree.specs.Layout.{openingSize};
+ghost use Rattle.code.specs.Points.{isWitnessCount, depth};
+ghost use Rattle.theory.specs.Checks.{answer};
+ghost use Rattle.theory.specs.Buffers.{elements};
+ghost use Rattle.theory.specs.Sizes.{hasLength, positionCountFits, elementsBelow, positionsBelow};
+ghost use Rattle.theory.specs.Calls.{openChecks, openingsOf, «open»};
+
+// Check 2.
+fn fits(k: u32, t: u32, w: &[u8], positions: &[u8], openings: &[u8]) -> bool
+    ensures { λ r. ⌜ r ≡ (isWitnessCount k && positionCountFits k t && hasLength (now (w .entry)) (4 * k) && hasLength (now (positions .entry)) (4 * t) && hasLength (now (openings .entry)) (t * openingSize (depth k))) ⌝ }
+{
+    if !code::is_witness_count(k) {
+        return false;
+    }
+    let n = k as usize;
+    let count = t as usize;
+    let size = 4 + 32 * code::depth_of(n);
+    checks::sizes::position_count_fits(k, t)
+        & (w.len() == 4 * n)
+        & (positions.len() == 4 * count)
+        & (openings.len() == count * size)
+}
+
+// Checks 2, 3 and 6, in this order.
+fn verdict(k: u32, t: u32, w: &[u8], positions: &[u8], openings: &[u8]) -> u32
+    ensures { λ r. ⌜ r ≡ answer (openChecks k t (now (w .entry)) (now (positions .entry)) (now (openings .entry))) ⌝ }
+{
+    if !fits(k, t, w, positions, openings) {
+        return 2;
+    }
+    if !checks::elements::elements_below(w, k as usize) {
+        return 3;
+    }
+    if !checks::sizes::positions_below(k, positions, t as usize) {
+        return 6;
+    }
+    0
+}
+
+// Writes the openings; values is lent for the codeword's numbers.
+fn write_in(k: usize, t: usize, w: &[u8], positions: &[u8], values: &mut [u32], openings: &mut [u8])
+    requires { ⌜ (isWitnessCount k ≡ true) × (length (now w) ≡ 4 * k) × (elementsBelow (now w) ≡ true) × (length (now positions) ≡ 4 * t) × (positionsBelow k (now positions) ≡ true) × (length (now values) ≡ 4 * k) × (length (now openings) ≡ t * openingSize (depth k)) ⌝ }
+    ensures { λ _. ⌜ now (openings .exit) ≡ openingsOf k t (elements k (now (w .entry))) (numbers (now (positions .entry))) ⌝ }
+{
+    checks::witness::codeword(k, w, values);
+    tree::write_openings(values, code::depth_of(k), positions, openings);
+}
+
+// Writes the openings.
+fn write(k: usize, t: usize, w: &[u8], positions: &[u8], openings: &mut [u8])
+    requires { ⌜ (isWitnessCount k ≡ true) × (length (now w) ≡ 4 * k) × (elementsBelow (now w) ≡ true) × (length (now positions) ≡ 4 * t) × (positionsBelow k (now positions) ≡ true) × (length (now openings) ≡ t * openingSize (depth k)) ⌝ }
+    ensures { λ _. ⌜ now (openings .exit) ≡ openingsOf k t (elements k (now (w .entry))) (numbers (now (positions .entry))) ⌝ }
+{
+    let mut values = [0u32; 256];
+    write_in(k, t, w, positions, &mut values[..4 * k], openings);
+}
+
+// Runs checks 2, 3 and 6, and writes the openings of w at the t positions.
+pub fn open(k: u32, t: u32, w: &[u8], positions: &[u8], openings: &mut [u8]) -> u32
+    ensures answer { λ r. ⌜ r ≡ «open» k t (now (w .entry)) (now (positions .entry)) (now (openings .entry)) .answer ⌝ }
+    ensures openings { λ r. ⌜ now (openings .exit) ≡ «open» k t (now (w .entry)) (now (positions .entry)) (now (openings .entry)) .openings ⌝ }
+{
+    let answer = verdict(k, t, w, positions, openings);
+    if answer != 0 {
+        return answer;
+    }
+    write(k as usize, t as usize, w, positions, openings);
+    0
+}

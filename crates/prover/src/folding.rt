@@ -1,0 +1,261 @@
+// Folding: the quotient, the new item and the new witness at a challenge. Checks 2, 3, 4, 5, 10 and 11.
+ghost use mathlib.Core.Path.{_≡_};
+ghost use mathlib.Core.Bool.{true, _&&_};
+ghost use mathlib.Core.List.{_∷_, _++_, map};
+ghost use Prim.Native.Nat.{_*_, _≤_, _<_};
+ghost use lib.ListN.{length};
+ghost use Rattle.field.specs.BabyBear.{babyBear, p, ofℕ};
+ghost use Rattle.field.specs.Numbers.{Below};
+ghost use Rattle.code.specs.Points.{isWitnessCount};
+ghost use Rattle.theory.specs.Checks.{answer};
+ghost use Rattle.theory.specs.Instance.{witnessRoot};
+ghost use Rattle.theory.specs.Combination.{newE, newR, newX, quotientSize};
+ghost use Rattle.theory.specs.Buffers.{elements, elementBytes, itemSize, itemBytes, readItems};
+ghost use Rattle.theory.specs.Sizes.{hasLength, elementsBelow};
+ghost use Rattle.theory.specs.Calls.{listFits, listQuotient, newWitness, newItem, foldChecks, fold};
+ghost use Rattle.fold.specs.Weights.{lagrangeAt};
+ghost use Rattle.fold.specs.Fits.{Fits};
+use crate::list;
+use crate::quotient;
+use checks::item;
+use fold::new_item;
+
+// The lengths of the output buffers.
+fn outputs_fit(m: usize, n: usize, k: usize, l: usize, q: &[u8], item: &[u8], wit: &[u8]) -> bool
+    requires { ⌜ (m ≤ 6) × (n ≤ 64) × (k ≤ 64) × (1 ≤ l) × (l ≤ 8) ⌝ }
+    ensures { λ r. ⌜ r ≡ (hasLength (now (q .entry)) (4 * quotientSize m l) && hasLength (now (item .entry)) (itemSize m n) && hasLength (now (wit .entry)) (4 * k)) ⌝ }
+{
+    (q.len() == 4 * list::quotient_size(m, l))
+        & (item.len() == 4 + 4 * m + 4 * n + 32)
+        & (wit.len() == 4 * k)
+}
+
+// Check 2.
+fn fits(
+    m: u32,
+    n: u32,
+    k: u32,
+    l: u32,
+    a: &[u8],
+    b: &[u8],
+    c: &[u8],
+    items: &[u8],
+    wits: &[u8],
+    q: &[u8],
+    item: &[u8],
+    wit: &[u8],
+) -> bool
+    ensures { λ r. ⌜ r ≡ (listFits m n k l (now (a .entry)) (now (b .entry)) (now (c .entry)) (now (items .entry)) (now (wits .entry)) && hasLength (now (q .entry)) (4 * quotientSize m l) && hasLength (now (item .entry)) (itemSize m n) && hasLength (now (wit .entry)) (4 * k)) ⌝ }
+{
+    if !list::fits(m, n, k, l, a, b, c, items, wits) {
+        return false;
+    }
+    outputs_fit(m as usize, n as usize, k as usize, l as usize, q, item, wit)
+}
+
+fn verdict(
+    m: u32,
+    n: u32,
+    k: u32,
+    l: u32,
+    challenge: u32,
+    a: &[u8],
+    b: &[u8],
+    c: &[u8],
+    items: &[u8],
+    wits: &[u8],
+    q: &[u8],
+    item: &[u8],
+    wit: &[u8],
+) -> u32
+    ensures { λ r. ⌜ r ≡ answer (foldChecks m n k l challenge (now (a .entry)) (now (b .entry)) (now (c .entry)) (now (items .entry)) (now (wits .entry)) (now (q .entry)) (now (item .entry)) (now (wit .entry))) ⌝ }
+{
+    if !fits(m, n, k, l, a, b, c, items, wits, q, item, wit) {
+        return 2;
+    }
+    let ms = m as usize;
+    let ns = n as usize;
+    let ks = k as usize;
+    let ls = l as usize;
+    if !list::below(ms, ns, ks, ls, a, b, c, items, wits) {
+        return 3;
+    }
+    if !checks::order::circuit_in_order(ms, ns, ks, a, b, c) {
+        return 4;
+    }
+    if !checks::sizes::challenge_fits(l, challenge) {
+        return 5;
+    }
+    if !checks::claims::all_match(ms, ns, ks, ls, items, wits) {
+        return 10;
+    }
+    if !checks::claims::all_hold(ms, ns, ks, ls, a, b, c, items, wits) {
+        return 11;
+    }
+    0
+}
+
+// Writes the new witness, with the given weights.
+fn write_witness(k: usize, l: usize, at: u32, weights: &[u32], wits: &[u8], out: &mut [u8])
+    requires { ⌜ (k ≤ 64) × (1 ≤ l) × (length (now wits) ≡ l * (4 * k)) × (now weights ≡ lagrangeAt l at) × (length (now out) ≡ 4 * k) ⌝ }
+    ensures { λ _. ⌜ now (out .exit) ≡ elementBytes (newWitness k l (ofℕ at) (now (wits .entry))) ⌝ }
+{
+    let mut values = [0u32; 64];
+    fold::combine::combine(weights, wits, k, 0, &mut values[..k]);
+    numbers::store(&values[..k], out);
+}
+
+// Writes the new item, with the given weights, the quotient's numbers and the new witness.
+fn write_item(
+    m: usize,
+    n: usize,
+    k: usize,
+    l: usize,
+    at: u32,
+    weights: &[u32],
+    items: &[u8],
+    q: &[u32],
+    wit: &[u8],
+    out: &mut [u8],
+)
+    requires { ⌜ (m ≤ 6) × (n ≤ 64) × (1 ≤ l) × (l ≤ 8) × (at < p) × (length (now items) ≡ l * itemSize m n) × (now weights ≡ lagrangeAt l at) × Below (now q) × (length (now out) ≡ itemSize m n) ⌝ }
+    requires { ⌜ (isWitnessCount k ≡ true) × (length (now wit) ≡ 4 * k) × (elementsBelow (now wit) ≡ true) ⌝ }
+    ensures { λ _. ⌜ now (out .exit) ≡ elementBytes (newE babyBear (readItems m n l (now (items .entry))) (map ofℕ (now (q .entry))) (ofℕ at) ∷ newR babyBear m (readItems m n l (now (items .entry))) (ofℕ at) ++ newX babyBear n (readItems m n l (now (items .entry))) (ofℕ at)) ++ witnessRoot k (elements k (now (wit .entry))) ⌝ }
+{
+    let mut values = [0u32; 71];
+    let count = 1 + m + n;
+    new_item::new_numbers(m, n, l, at, weights, items, q, &mut values[..count]);
+    item::write(&values[..count], checks::witness::root(k, wit), out);
+}
+
+// Writes the quotient, the new witness and the new item; values is lent for the quotient's numbers, weights for the L_i.
+fn write_in(
+    m: usize,
+    n: usize,
+    k: usize,
+    l: usize,
+    at: u32,
+    a: &[u8],
+    b: &[u8],
+    c: &[u8],
+    items: &[u8],
+    wits: &[u8],
+    values: &mut [u32],
+    weights: &mut [u32],
+    q: &mut [u8],
+    item: &mut [u8],
+    wit: &mut [u8],
+)
+    requires { ⌜ Fits m n k l (now a) (now b) (now c) (now items) (now wits) × (isWitnessCount k ≡ true) × (at < p) ⌝ }
+    requires { ⌜ (length (now values) ≡ quotientSize m l) × (length (now weights) ≡ l) ⌝ }
+    requires { ⌜ (length (now q) ≡ 4 * quotientSize m l) × (length (now item) ≡ itemSize m n) × (length (now wit) ≡ 4 * k) ⌝ }
+    ensures { λ _. ⌜ now (q .exit) ≡ elementBytes (listQuotient m n k l (now (a .entry)) (now (b .entry)) (now (c .entry)) (now (items .entry)) (now (wits .entry))) ⌝ }
+    ensures { λ _. ⌜ now (item .exit) ≡ itemBytes (newItem m n k l (ofℕ at) (now (items .entry)) (now (wits .entry)) (listQuotient m n k l (now (a .entry)) (now (b .entry)) (now (c .entry)) (now (items .entry)) (now (wits .entry)))) ⌝ }
+    ensures { λ _. ⌜ now (wit .exit) ≡ elementBytes (newWitness k l (ofℕ at) (now (wits .entry))) ⌝ }
+{
+    quotient::write_in(m, n, k, l, a, b, c, items, wits, values, q);
+    let inverses = field::inverses();
+    fold::basis::lagrange(at, &inverses, weights);
+    write_witness(k, l, at, weights, wits, wit);
+    write_item(m, n, k, l, at, weights, items, values, wit, item);
+}
+
+// Writes the quotient, the new item and the new witness.
+fn write(
+    m: usize,
+    n: usize,
+    k: usize,
+    l: usize,
+    at: u32,
+    a: &[u8],
+    b: &[u8],
+    c: &[u8],
+    items: &[u8],
+    wits: &[u8],
+    q: &mut [u8],
+    item: &mut [u8],
+    wit: &mut [u8],
+)
+    requires { ⌜ Fits m n k l (now a) (now b) (now c) (now items) (now wits) × (isWitnessCount k ≡ true) × (at < p) ⌝ }
+    requires { ⌜ (length (now q) ≡ 4 * quotientSize m l) × (length (now item) ≡ itemSize m n) × (length (now wit) ≡ 4 * k) ⌝ }
+    ensures { λ _. ⌜ now (q .exit) ≡ elementBytes (listQuotient m n k l (now (a .entry)) (now (b .entry)) (now (c .entry)) (now (items .entry)) (now (wits .entry))) ⌝ }
+    ensures { λ _. ⌜ now (item .exit) ≡ itemBytes (newItem m n k l (ofℕ at) (now (items .entry)) (now (wits .entry)) (listQuotient m n k l (now (a .entry)) (now (b .entry)) (now (c .entry)) (now (items .entry)) (now (wits .entry)))) ⌝ }
+    ensures { λ _. ⌜ now (wit .exit) ≡ elementBytes (newWitness k l (ofℕ at) (now (wits .entry))) ⌝ }
+{
+    let mut values = [0u32; 49];
+    let mut weights = [0u32; 8];
+    let count = list::quotient_size(m, l);
+    write_in(
+        m,
+        n,
+        k,
+        l,
+        at,
+        a,
+        b,
+        c,
+        items,
+        wits,
+        &mut values[..count],
+        &mut weights[..l],
+        q,
+        item,
+        wit,
+    );
+}
+
+pub fn fold(
+    m: u32,
+    n: u32,
+    k: u32,
+    l: u32,
+    challenge: u32,
+    a: &[u8],
+    b: &[u8],
+    c: &[u8],
+    items: &[u8],
+    wits: &[u8],
+    quotient: &mut [u8],
+    item: &mut [u8],
+    wit: &mut [u8],
+) -> u32
+    ensures answer { λ r. ⌜ r ≡ fold m n k l challenge (now (a .entry)) (now (b .entry)) (now (c .entry)) (now (items .entry)) (now (wits .entry)) (now (quotient .entry)) (now (item .entry)) (now (wit .entry)) .answer ⌝ }
+    ensures quotient { λ r. ⌜ now (quotient .exit) ≡ fold m n k l challenge (now (a .entry)) (now (b .entry)) (now (c .entry)) (now (items .entry)) (now (wits .entry)) (now (quotient .entry)) (now (item .entry)) (now (wit .entry)) .quotient ⌝ }
+    ensures item { λ r. ⌜ now (item .exit) ≡ fold m n k l challenge (now (a .entry)) (now (b .entry)) (now (c .entry)) (now (items .entry)) (now (wits .entry)) (now (quotient .entry)) (now (item .entry)) (now (wit .entry)) .item ⌝ }
+    ensures wit { λ r. ⌜ now (wit .exit) ≡ fold m n k l challenge (now (a .entry)) (now (b .entry)) (now (c .entry)) (now (items .entry)) (now (wits .entry)) (now (quotient .entry)) (now (item .entry)) (now (wit .entry)) .wit ⌝ }
+{
+    let answer = verdict(
+        m,
+        n,
+        k,
+        l,
+        challenge,
+        a,
+        b,
+        c,
+        items,
+        wits,
+        quotient,
+        item,
+        wit,
+    );
+    if answer != 0 {
+        return answer;
+    }
+    write(
+        m as usize,
+        n as usize,
+        k as usize,
+        l as usize,
+        challenge,
+        a,
+        b,
+        c,
+        items,
+        wits,
+        quotient,
+        item,
+        wit,
+    );
+    0
+}

@@ -1,0 +1,156 @@
+// The seven calls for C. Each tests its own input and answers 0, or the number of the first check that fails; a refusal writes nothing.
+ghost use mathlib.Core.Path.{_≡_};
+ghost use Rattle.theory.specs.Calls.{encode, cast, quotient, fold, «open», verify, decide};
+
+// Writes the codeword of a witness and its root. Checks 2 and 3.
+#[no_mangle]
+pub extern "C" fn lomvuze_encode(k: u32, w: &[u8], code: &mut [u8], root: &mut [u8]) -> u32
+    ensures answer { λ r. ⌜ r ≡ encode k (now (w .entry)) (now (code .entry)) (now (root .entry)) .answer ⌝ }
+    ensures code { λ r. ⌜ now (code .exit) ≡ encode k (now (w .entry)) (now (code .entry)) (now (root .entry)) .code ⌝ }
+    ensures root { λ r. ⌜ now (root .exit) ≡ encode k (now (w .entry)) (now (code .entry)) (now (root .entry)) .root ⌝ }
+{
+    encoder::encode::encode(k, w, code, root)
+}
+
+// Writes the item of an instance: r as lent, e 0, the root of the witness. Checks 2, 3, 4 and 11.
+#[no_mangle]
+pub extern "C" fn lomvuze_cast(
+    m: u32,
+    n: u32,
+    k: u32,
+    a: &[u8],
+    b: &[u8],
+    c: &[u8],
+    r: &[u8],
+    x: &[u8],
+    w: &[u8],
+    item: &mut [u8],
+) -> u32
+    ensures answer { λ res. ⌜ res ≡ cast m n k (now (a .entry)) (now (b .entry)) (now (c .entry)) (now (r .entry)) (now (x .entry)) (now (w .entry)) (now (item .entry)) .answer ⌝ }
+    ensures item { λ res. ⌜ now (item .exit) ≡ cast m n k (now (a .entry)) (now (b .entry)) (now (c .entry)) (now (r .entry)) (now (x .entry)) (now (w .entry)) (now (item .entry)) .item ⌝ }
+{
+    decider::cast::cast(m, n, k, a, b, c, r, x, w, item)
+}
+
+// Writes the quotient of a list of items with their witnesses. Checks 2, 3, 4, 10 and 11.
+#[no_mangle]
+pub extern "C" fn lomvuze_quotient(
+    m: u32,
+    n: u32,
+    k: u32,
+    l: u32,
+    a: &[u8],
+    b: &[u8],
+    c: &[u8],
+    items: &[u8],
+    wits: &[u8],
+    out: &mut [u8],
+) -> u32
+    ensures answer { λ r. ⌜ r ≡ quotient m n k l (now (a .entry)) (now (b .entry)) (now (c .entry)) (now (items .entry)) (now (wits .entry)) (now (out .entry)) .answer ⌝ }
+    ensures quotient { λ r. ⌜ now (out .exit) ≡ quotient m n k l (now (a .entry)) (now (b .entry)) (now (c .entry)) (now (items .entry)) (now (wits .entry)) (now (out .entry)) .quotient ⌝ }
+{
+    prover::quotient::quotient(m, n, k, l, a, b, c, items, wits, out)
+}
+
+// Writes the quotient, the new item and the new witness at a challenge. Checks 2, 3, 4, 5, 10 and 11.
+#[no_mangle]
+pub extern "C" fn lomvuze_fold(
+    m: u32,
+    n: u32,
+    k: u32,
+    l: u32,
+    challenge: u32,
+    a: &[u8],
+    b: &[u8],
+    c: &[u8],
+    items: &[u8],
+    wits: &[u8],
+    quotient: &mut [u8],
+    item: &mut [u8],
+    wit: &mut [u8],
+) -> u32
+    ensures answer { λ r. ⌜ r ≡ fold m n k l challenge (now (a .entry)) (now (b .entry)) (now (c .entry)) (now (items .entry)) (now (wits .entry)) (now (quotient .entry)) (now (item .entry)) (now (wit .entry)) .answer ⌝ }
+    ensures quotient { λ r. ⌜ now (quotient .exit) ≡ fold m n k l challenge (now (a .entry)) (now (b .entry)) (now (c .entry)) (now (items .entry)) (now (wits .entry)) (now (quotient .entry)) (now (item .entry)) (now (wit .entry)) .quotient ⌝ }
+    ensures item { λ r. ⌜ now (item .exit) ≡ fold m n k l challenge (now (a .entry)) (now (b .entry)) (now (c .entry)) (now (items .entry)) (now (wits .entry)) (now (quotient .entry)) (now (item .entry)) (now (wit .entry)) .item ⌝ }
+    ensures wit { λ r. ⌜ now (wit .exit) ≡ fold m n k l challenge (now (a .entry)) (now (b .entry)) (now (c .entry)) (now (items .entry)) (now (wits .entry)) (now (quotient .entry)) (now (item .entry)) (now (wit .entry)) .wit ⌝ }
+{
+    prover::folding::fold(
+        m,
+        n,
+        k,
+        l,
+        challenge,
+        a,
+        b,
+        c,
+        items,
+        wits,
+        quotient,
+        item,
+        wit,
+    )
+}
+
+// Writes the openings of a witness at a list of positions. Checks 2, 3 and 6.
+#[no_mangle]
+pub extern "C" fn lomvuze_open(
+    k: u32,
+    t: u32,
+    w: &[u8],
+    positions: &[u8],
+    openings: &mut [u8],
+) -> u32
+    ensures answer { λ r. ⌜ r ≡ «open» k t (now (w .entry)) (now (positions .entry)) (now (openings .entry)) .answer ⌝ }
+    ensures openings { λ r. ⌜ now (openings .exit) ≡ «open» k t (now (w .entry)) (now (positions .entry)) (now (openings .entry)) .openings ⌝ }
+{
+    encoder::open::open(k, t, w, positions, openings)
+}
+
+// Verifies a fold. Checks 2, 3 and 5 to 9.
+#[no_mangle]
+pub extern "C" fn lomvuze_verify(
+    m: u32,
+    n: u32,
+    k: u32,
+    l: u32,
+    t: u32,
+    challenge: u32,
+    items: &[u8],
+    positions: &[u8],
+    quotient: &[u8],
+    item: &[u8],
+    openings: &[u8],
+) -> u32
+    ensures { λ r. ⌜ r ≡ verify m n k l t challenge (now (items .entry)) (now (positions .entry)) (now (quotient .entry)) (now (item .entry)) (now (openings .entry)) ⌝ }
+{
+    verifier::verify::verify(
+        m,
+        n,
+        k,
+        l,
+        t,
+        challenge,
+        items,
+        positions,
+        quotient,
+        item,
+        openings,
+    )
+}
+
+// Decides an item with its witness. Checks 2, 3, 4, 10 and 11.
+#[no_mangle]
+pub extern "C" fn lomvuze_decide(
+    m: u32,
+    n: u32,
+    k: u32,
+    a: &[u8],
+    b: &[u8],
+    c: &[u8],
+    item: &[u8],
+    wit: &[u8],
+) -> u32
+    ensures { λ r. ⌜ r ≡ decide m n k (now (a .entry)) (now (b .entry)) (now (c .entry)) (now (item .entry)) (now (wit .entry)) ⌝ }
+{
+    decider::decide::decide(m, n, k, a, b, c, item, wit)
+}

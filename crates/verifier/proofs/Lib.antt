@@ -1,0 +1,6 @@
+pub mod Answers
+pub mod Combining
+pub mod Counting
+pub mod Leading
+pub mod Places
+pub mod Tests
