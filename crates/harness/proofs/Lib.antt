@@ -1,0 +1,4 @@
+pub mod Answers
+pub mod Elements
+pub mod Permitted
+pub mod Openings

@@ -1,0 +1,50 @@
+// The code.
+ghost use mathlib.Core.Path.{_≡_};
+ghost use mathlib.Core.List.{map};
+ghost use lib.ListN.{length};
+ghost use Rattle.numbers.specs.Numbers.{allBelow};
+ghost use Rattle.field.specs.BabyBear.{p, R, val, ofℕ};
+ghost use Rattle.code.specs.Codeword.{codeword};
+ghost use Rattle.code.specs.Points.{points};
+ghost use Rattle.harness.specs.Answers.{answer, written};
+ghost use Rattle.harness.specs.Permitted.{codewordSizes, codewordPermitted};
+
+// Whether all numbers are below p.
+fn all_elements(w: &[u32]) -> bool
+    ensures { λ r. ⌜ r ≡ allBelow p (now (w .entry)) ⌝ }
+{
+    let mut i = 0;
+    while i < w.len() {
+        if w[i] >= field::P {
+            return false;
+        }
+        i += 1;
+    }
+    true
+}
+
+fn sizes(k: usize, out: usize) -> bool
+    ensures { λ r. ⌜ r ≡ codewordSizes k out ⌝ }
+{
+    let count = (k == 2) | (k == 4) | (k == 8) | (k == 16) | (k == 32) | (k == 64);
+    count & (out % 4 == 0) & (out / 4 == k)
+}
+
+fn permitted(w: &[u32], out: usize) -> bool
+    ensures { λ r. ⌜ r ≡ codewordPermitted (now (w .entry)) out ⌝ }
+{
+    sizes(w.len(), out) & all_elements(w)
+}
+
+// Writes the codeword of w. Refuses sizes that do not fit, and numbers of p or more.
+#[no_mangle]
+pub extern "C" fn lomvuze_test_codeword(w: &[u32], out: &mut [u32]) -> u32
+    ensures answer { λ r. ⌜ r ≡ answer (codewordPermitted (now (w .entry)) (length (now (out .entry)))) ⌝ }
+    ensures out { λ r. ⌜ now (out .exit) ≡ written r (map val (codeword R (points (length (now (w .entry)))) (map ofℕ (now (w .entry))))) (now (out .entry)) ⌝ }
+{
+    if !permitted(w, out.len()) {
+        return 1;
+    }
+    code::codeword(w, out);
+    0
+}

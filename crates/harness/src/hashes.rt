@@ -1,0 +1,39 @@
+// SHA-256, the leaf and the inner node of a hash tree.
+ghost use mathlib.Core.Path.{_≡_};
+ghost use mathlib.Core.List.{_∷_, _++_};
+ghost use lib.ListN.{length};
+ghost use Rattle.hash.specs.Sha256.{digest};
+ghost use Rattle.harness.specs.Answers.{digestAnswer, written};
+
+// A message of 2^61 bytes or more is refused: its length in bits does not fit eight bytes.
+#[no_mangle]
+pub extern "C" fn lomvuze_test_digest(message: &[u8], out: &mut [u8; 32]) -> u32
+    ensures answer { λ r. ⌜ r ≡ digestAnswer (length (now (message .entry))) ⌝ }
+    ensures out { λ r. ⌜ now (out .exit) ≡ written r (digest (now (message .entry))) (now (out .entry)) ⌝ }
+{
+    if !(message.len() < 0x2000000000000000) {
+        return 1;
+    }
+    let d = hash::digest(message);
+    *out = d;
+    0
+}
+
+#[no_mangle]
+pub extern "C" fn lomvuze_test_leaf(value: &[u8; 4], out: &mut [u8; 32])
+    ensures { λ _. ⌜ now (out .exit) ≡ digest (0x00 ∷ now (value .entry)) ⌝ }
+{
+    let v = *value;
+    let d = hash::leaf(v);
+    *out = d;
+}
+
+#[no_mangle]
+pub extern "C" fn lomvuze_test_node(left: &[u8; 32], right: &[u8; 32], out: &mut [u8; 32])
+    ensures { λ _. ⌜ now (out .exit) ≡ digest (0x01 ∷ (now (left .entry) ++ now (right .entry))) ⌝ }
+{
+    let l = *left;
+    let r = *right;
+    let d = hash::node(l, r);
+    *out = d;
+}

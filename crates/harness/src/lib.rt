@@ -1,0 +1,5 @@
+// The library's lower layers for tests in other languages: each function tests or reduces its own input.
+mod codes;
+mod fields;
+mod hashes;
+mod trees;
