@@ -1,0 +1,38 @@
+/*
+ * Verifies and decides a stored batch: a fold of l items, with its openings, its circuit and the new witness (README.md gives the format).
+ *
+ *   verify_batch FILE
+ *
+ * Prints the answer of each call. Exit status: 0 where every answer is 0, 1 where one is not, 2 where FILE is no batch.
+ */
+#include "batch.h"
+
+int main(int argc, char **argv) {
+  struct front f;
+  struct rest rest;
+  if (argc != 2) {
+    fprintf(stderr, "usage: verify_batch FILE\n");
+    return 2;
+  }
+  if (!start(argv[1], "lomvuze1", &f, &rest)) return 2;
+  struct part positions = take(&rest, LOMVUZE_POSITIONS_BYTES(f.t));
+  struct part quotient = take(&rest, LOMVUZE_QUOTIENT_BYTES(f.m, f.l));
+  struct part item = take(&rest, LOMVUZE_ITEM_BYTES(f.m, f.n));
+  struct part openings = take(&rest, LOMVUZE_ALL_OPENINGS_BYTES(f.k, f.l, f.t));
+  struct part witness = take(&rest, LOMVUZE_WITNESS_BYTES(f.k));
+  if (!finished(&rest)) return 2;
+
+  bool verified = report("verify", lomvuze_verify(f.m, f.n, f.k, f.l, f.t, f.challenge,
+                                                  f.items.bytes, f.items.length,
+                                                  positions.bytes, positions.length,
+                                                  quotient.bytes, quotient.length,
+                                                  item.bytes, item.length,
+                                                  openings.bytes, openings.length));
+  bool decided = report("decide", lomvuze_decide(f.m, f.n, f.k,
+                                                 f.a.bytes, f.a.length,
+                                                 f.b.bytes, f.b.length,
+                                                 f.c.bytes, f.c.length,
+                                                 item.bytes, item.length,
+                                                 witness.bytes, witness.length));
+  return verified && decided ? 0 : 1;
+}

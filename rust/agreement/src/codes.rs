@@ -1,0 +1,148 @@
+//! Points, codewords and digests.
+
+use crate::text::{elements, list, numbers, Equation, File};
+use lomvuze_reference::field::Element;
+use lomvuze_reference::{code, sha256, tree};
+use lomvuze_samples::Random;
+
+/// The reference's points, proved to be the definition's: first the table of 256, then every (64 / k)-th of them.
+pub fn points() -> String {
+    let mut text = "-- The points of the code as numbers.
+use mathlib.Core.Path.{_≡_, refl, sym, _∙_}
+use mathlib.Core.List.{List, [], _∷_, map}
+use Prim.Native.Nat.{ℕ}
+use Rattle.field.specs.BabyBear.{val}
+use Rattle.code.specs.Points.{points}
+use Rattle.code.proofs.Root.{powersFrom, table-points}
+use Rattle.code.proofs.Taken.{taken-points}
+use Rattle.agreement.specs.Elements.{listed}
+"
+    .to_string();
+    let table = |k| list((0..4 * k).map(|i| code::point(k, i).number()));
+    text += &format!(
+        "\nabbrev pub table : List ℕ\ntable = {}\n\npub whole : table ≡ map val (points 64)\nunfolding powersFrom\nwhole = table-points table refl tt\n",
+        table(64)
+    );
+    for k in [2, 4, 8, 16, 32, 64] {
+        text += &format!(
+            "\npub points-{k} : points {k} ≡ listed {}\npoints-{k} = sym (taken-points table whole {k} {} refl refl)\n",
+            table(k),
+            4 * k
+        );
+    }
+    text
+}
+
+fn codeword_of(w: &[Element]) -> Equation {
+    let k = w.len();
+    Equation {
+        left: format!("map val (codewordOf {k} {})", elements(w)),
+        right: numbers(&code::codeword(w)),
+        unfolding: "codeword valueAt val".to_string(),
+        proof: format!("rw (points-{k}) (unfold babyBear val ofℕ pow in refl)"),
+    }
+}
+
+/// Case 9, and random witnesses.
+pub fn codewords() -> File {
+    let random = &mut Random::new(5);
+    let mut equations = vec![codeword_of(&witness())];
+    for (k, count) in [(2, 30), (4, 15), (8, 4), (16, 1)] {
+        equations.extend((0..count).map(|_| codeword_of(&random.elements(k))));
+    }
+    let head = "-- Codewords of witnesses.
+use mathlib.Core.Path.{_≡_, refl}
+use mathlib.Core.List.{List, [], _∷_, map}
+use Rattle.algebra.specs.Polynomial.{pow}
+use Rattle.field.specs.BabyBear.{babyBear, val, ofℕ}
+use Rattle.code.specs.Codeword.{codeword, valueAt}
+use Rattle.theory.specs.Instance.{codewordOf}
+use Rattle.agreement.specs.Elements.{listed}
+use Rattle.agreement.specs.Points.{points-2, points-4, points-8, points-16}
+"
+    .to_string();
+    File { name: "Codewords", head, equations }
+}
+
+/// The witness whose tree is worked out digest by digest, since a digest takes the prover most of a second.
+pub fn witness() -> Vec<Element> {
+    [2, 3].map(Element::reduce).to_vec()
+}
+
+/// Every digest of the tree over one codeword, from the leaves upwards, and then the root of that witness's codeword.
+pub fn digests() -> File {
+    let shut = "digest bytes hash pad words compress inBytes upTo K H₀ zeros padding scheduled schedule roundWith rounds sum ROTR Ch Maj Σ₀ Σ₁ σ₀ σ₁";
+    let w = witness();
+    let codeword = code::codeword(&w);
+    let mut equations = vec![];
+    // A digest of the current level, and the name of the path from the tree's own term to it.
+    let mut level: Vec<(sha256::Digest, String)> = vec![];
+    for entry in code::entries(&codeword) {
+        let digest = tree::leaf(&entry);
+        level.push((digest, format!("equation-{}", equations.len())));
+        equations.push(Equation {
+            left: format!("digest (leafString {})", list(entry)),
+            right: list(digest),
+            unfolding: shut.to_string(),
+            proof: "refl".to_string(),
+        });
+    }
+    while level.len() > 1 {
+        let mut next = vec![];
+        for pair in level.chunks(2) {
+            let [(left, left_path), (right, right_path)] = pair else { panic!() };
+            let digest = tree::node(left, right);
+            let joined = format!("equation-{}", equations.len());
+            equations.push(Equation {
+                left: format!("digest (nodeString {} {})", list(left), list(right)),
+                right: list(digest),
+                unfolding: shut.to_string(),
+                proof: "refl".to_string(),
+            });
+            next.push((digest, format!("(ap₂ {{C = List ℕ}} (λ (s t : List ℕ). digest (nodeString s t)) {left_path} {right_path} ∙ {joined})")));
+        }
+        level = next;
+    }
+    let (root, path) = &level[0];
+    let (k, w, codeword) = (w.len(), elements(&w), elements(&codeword));
+    equations.push(Equation {
+        left: format!("root digest (depth {k}) (leaves babyBear sha {codeword})"),
+        right: list(root),
+        unfolding: "root entry depth val ofℕ".to_string(),
+        proof: path.clone(),
+    });
+    equations.push(Equation {
+        left: format!("codewordOf {k} {w}"),
+        right: codeword,
+        unfolding: "val".to_string(),
+        proof: format!("sym (numbers-of (codewordOf {k} {w})) ∙ ap listed codeword-numbers"),
+    });
+    equations.push(Equation {
+        left: format!("witnessRoot {k} {w}"),
+        right: list(root),
+        unfolding: "val".to_string(),
+        proof: format!(
+            "ap (λ (vs : List F). root digest (depth {k}) (leaves babyBear sha vs)) equation-{} ∙ equation-{}",
+            equations.len() - 1,
+            equations.len() - 2
+        ),
+    });
+    let head = "-- The digests of the tree over the codeword of one witness, its root, and its codeword as elements.
+use mathlib.Core.Path.{_≡_, refl, sym, _∙_, ap, ap₂}
+use mathlib.Core.List.{List, [], _∷_}
+use Prim.Native.Nat.{ℕ}
+use Rattle.field.specs.BabyBear.{babyBear, F, val, ofℕ}
+use Rattle.hash.specs.Word.{ROTR, Ch, Maj, Σ₀, Σ₁, σ₀, σ₁}
+use Rattle.hash.specs.Sha256.{digest, bytes, hash, pad, words, compress, inBytes, upTo, K, H₀, zeros, padding, scheduled, schedule, roundWith, rounds, sum}
+use Rattle.tree.specs.Merkle.{leafString, nodeString, root}
+use Rattle.tree.specs.Entry.{entry}
+use Rattle.code.specs.Points.{depth}
+use Rattle.theory.specs.Items.{leaves}
+use Rattle.theory.specs.Instance.{sha, codewordOf, witnessRoot}
+use Rattle.agreement.specs.Elements.{listed}
+use Rattle.agreement.specs.Runs.{numbers-of}
+use Rattle.agreement.specs.Codewords.{equation-0 as codeword-numbers}
+"
+    .to_string();
+    File { name: "Digests", head, equations }
+}

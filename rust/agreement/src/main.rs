@@ -1,0 +1,49 @@
+//! Writes a crate of closed equations: on each left the proved library's definitions applied to numbers, on each right what
+//! the reference computes from the same numbers. The prover then checks every equation by computation.
+//!
+//! Usage: lomvuze-agreement FOLDER
+
+mod calls;
+mod claims;
+mod codes;
+mod instance;
+mod text;
+
+use std::{env, fs, io, path::Path};
+
+fn main() -> io::Result<()> {
+    let folder = env::args().nth(1).expect("usage: lomvuze-agreement FOLDER");
+    let folder = Path::new(&folder);
+    let files = [
+        claims::values(),
+        claims::weights(),
+        claims::combinations(),
+        claims::quotients(),
+        codes::codewords(),
+        codes::digests(),
+        calls::answers(),
+    ];
+
+    fs::create_dir_all(folder.join("src"))?;
+    fs::create_dir_all(folder.join("specs"))?;
+    fs::write(
+        folder.join("src/lib.rt"),
+        "// Equations between definitions and numbers, each checked by computation.\n",
+    )?;
+    fs::write(folder.join("specs/Elements.antt"), include_str!("../Elements.antt.in"))?;
+    fs::write(folder.join("specs/Runs.antt"), include_str!("../Runs.antt.in"))?;
+    fs::write(folder.join("specs/Inverses.antt"), claims::inverses())?;
+    fs::write(folder.join("specs/Points.antt"), codes::points())?;
+    let mut names = vec!["Elements", "Runs", "Inverses", "Points"];
+    let mut total = 0;
+    for file in &files {
+        fs::write(folder.join(format!("specs/{}.antt", file.name)), file.text())?;
+        println!("{}\t{}", file.name, file.equations.len());
+        names.push(file.name);
+        total += file.equations.len();
+    }
+    let modules: String = names.iter().map(|name| format!("pub mod {name}\n")).collect();
+    fs::write(folder.join("specs/Lib.antt"), modules)?;
+    println!("equations\t{total}");
+    Ok(())
+}

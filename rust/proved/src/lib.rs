@@ -1,0 +1,124 @@
+//! The proved library through its C boundary: one safe function for each that the crate `harness` exports.
+//!
+//! A slice crosses the boundary as pointer and length, an array as a pointer alone.
+
+pub type Digest = [u8; 32];
+
+mod exported {
+    extern "C" {
+        pub fn lomvuze_test_add(a: u32, b: u32) -> u32;
+        pub fn lomvuze_test_sub(a: u32, b: u32) -> u32;
+        pub fn lomvuze_test_neg(a: u32) -> u32;
+        pub fn lomvuze_test_mul(a: u32, b: u32) -> u32;
+        pub fn lomvuze_test_pow(a: u32, e: u32) -> u32;
+        pub fn lomvuze_test_inverse(n: u32) -> u32;
+        pub fn lomvuze_test_chain_mul(x: u32, y: u32, n: u32) -> u32;
+        pub fn lomvuze_test_chain_add(x: u32, y: u32, n: u32) -> u32;
+
+        pub fn lomvuze_test_digest(message: *const u8, length: usize, out: *mut u8) -> u32;
+        pub fn lomvuze_test_leaf(value: *const u8, out: *mut u8);
+        pub fn lomvuze_test_node(left: *const u8, right: *const u8, out: *mut u8);
+
+        pub fn lomvuze_test_root(values: *const u32, count: usize, depth: usize, out: *mut u8) -> u32;
+        pub fn lomvuze_test_opening(
+            values: *const u32,
+            count: usize,
+            depth: usize,
+            position: usize,
+            out: *mut u8,
+            size: usize,
+        ) -> u32;
+        pub fn lomvuze_test_leads(
+            opening: *const u8,
+            size: usize,
+            depth: usize,
+            position: usize,
+            out: *mut u8,
+        ) -> u32;
+
+        pub fn lomvuze_test_codeword(w: *const u32, k: usize, out: *mut u32, count: usize) -> u32;
+    }
+}
+use exported::*;
+
+// ---- The field. An operand is any number, and stands for its element.
+
+pub fn add(a: u32, b: u32) -> u32 {
+    unsafe { lomvuze_test_add(a, b) }
+}
+
+pub fn sub(a: u32, b: u32) -> u32 {
+    unsafe { lomvuze_test_sub(a, b) }
+}
+
+pub fn neg(a: u32) -> u32 {
+    unsafe { lomvuze_test_neg(a) }
+}
+
+pub fn mul(a: u32, b: u32) -> u32 {
+    unsafe { lomvuze_test_mul(a, b) }
+}
+
+pub fn pow(a: u32, e: u32) -> u32 {
+    unsafe { lomvuze_test_pow(a, e) }
+}
+
+/// The inverse of n modulo 64; that of 0 is 0.
+pub fn inverse(n: u32) -> u32 {
+    unsafe { lomvuze_test_inverse(n) }
+}
+
+/// x × y^n, by n products.
+pub fn chain_mul(x: u32, y: u32, n: u32) -> u32 {
+    unsafe { lomvuze_test_chain_mul(x, y, n) }
+}
+
+/// x + n × y, by n sums.
+pub fn chain_add(x: u32, y: u32, n: u32) -> u32 {
+    unsafe { lomvuze_test_chain_add(x, y, n) }
+}
+
+// ---- SHA-256.
+
+pub fn digest(message: &[u8]) -> Digest {
+    let mut out = [0; 32];
+    let answer = unsafe { lomvuze_test_digest(message.as_ptr(), message.len(), out.as_mut_ptr()) };
+    assert_eq!(answer, 0);
+    out
+}
+
+pub fn leaf(value: &[u8; 4]) -> Digest {
+    let mut out = [0; 32];
+    unsafe { lomvuze_test_leaf(value.as_ptr(), out.as_mut_ptr()) };
+    out
+}
+
+pub fn node(left: &Digest, right: &Digest) -> Digest {
+    let mut out = [0; 32];
+    unsafe { lomvuze_test_node(left.as_ptr(), right.as_ptr(), out.as_mut_ptr()) };
+    out
+}
+
+// ---- Hash trees over 2^depth values. Each answers 0, or 1 where it refuses sizes that do not fit.
+
+pub fn root(values: &[u32], depth: usize, out: &mut Digest) -> u32 {
+    unsafe { lomvuze_test_root(values.as_ptr(), values.len(), depth, out.as_mut_ptr()) }
+}
+
+/// Writes the opening of a position: the value in four bytes and the sibling digests from the leaf upwards.
+pub fn opening(values: &[u32], depth: usize, position: usize, out: &mut [u8]) -> u32 {
+    unsafe {
+        lomvuze_test_opening(values.as_ptr(), values.len(), depth, position, out.as_mut_ptr(), out.len())
+    }
+}
+
+/// Writes where an opening leads.
+pub fn leads_to(opening: &[u8], depth: usize, position: usize, out: &mut Digest) -> u32 {
+    unsafe { lomvuze_test_leads(opening.as_ptr(), opening.len(), depth, position, out.as_mut_ptr()) }
+}
+
+// ---- The code. Answers 0, or 1 where it refuses sizes that do not fit or a number of p or more.
+
+pub fn codeword(w: &[u32], out: &mut [u32]) -> u32 {
+    unsafe { lomvuze_test_codeword(w.as_ptr(), w.len(), out.as_mut_ptr(), out.len()) }
+}

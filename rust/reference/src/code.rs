@@ -1,0 +1,32 @@
+//! The code: a witness of k numbers becomes a codeword of 4k values.
+
+use crate::field::{Element, P};
+use crate::sha256::Digest;
+use crate::tree;
+
+/// Point i of the code for k witness numbers: g^i with g = 31^((p - 1) / 4k).
+pub fn point(k: usize, i: usize) -> Element {
+    let g = Element::reduce(31).pow((P as u64 - 1) / (4 * k as u64));
+    g.pow(i as u64)
+}
+
+/// The codeword of w: at position i, the sum of w_j × (point i)^j.
+pub fn codeword(w: &[Element]) -> Vec<Element> {
+    let k = w.len();
+    (0..4 * k)
+        .map(|i| {
+            let x = point(k, i);
+            (0..k).map(|j| w[j] * x.pow(j as u64)).sum()
+        })
+        .collect()
+}
+
+/// The entries of the tree over a codeword: each value in four bytes, lowest first.
+pub fn entries(codeword: &[Element]) -> Vec<[u8; 4]> {
+    codeword.iter().map(|value| value.number().to_le_bytes()).collect()
+}
+
+/// The root of the tree over a witness's codeword.
+pub fn root(w: &[Element]) -> Digest {
+    tree::root(&entries(&codeword(w)))
+}

@@ -1,0 +1,59 @@
+//! Hash trees over a list of entries: RFC 6962, section 2.1. An entry is a string of bytes; in this library
+//! it is a value in four bytes, lowest first.
+
+use crate::sha256::{digest, Digest};
+
+/// The hash of a leaf: the byte 0x00 and the entry.
+pub fn leaf(entry: &[u8]) -> Digest {
+    digest(&[&[0x00], entry].concat())
+}
+
+/// The hash of an inner node: the byte 0x01 and the two child digests.
+pub fn node(left: &Digest, right: &Digest) -> Digest {
+    digest(&[&[0x01], &left[..], &right[..]].concat())
+}
+
+/// The largest power of two below n, for n of 2 or more.
+fn split(n: usize) -> usize {
+    let mut k = 1;
+    while 2 * k < n {
+        k *= 2;
+    }
+    k
+}
+
+/// MTH(entries): the root of the tree.
+pub fn root<E: AsRef<[u8]>>(entries: &[E]) -> Digest {
+    match entries {
+        [] => digest(&[]),
+        [entry] => leaf(entry.as_ref()),
+        _ => {
+            let (left, right) = entries.split_at(split(entries.len()));
+            node(&root(left), &root(right))
+        }
+    }
+}
+
+/// PATH(position, entries): the sibling digests from the leaf upwards.
+pub fn path<E: AsRef<[u8]>>(position: usize, entries: &[E]) -> Vec<Digest> {
+    if entries.len() <= 1 {
+        return vec![];
+    }
+    let k = split(entries.len());
+    let (left, right) = entries.split_at(k);
+    if position < k {
+        [path(position, left), vec![root(right)]].concat()
+    } else {
+        [path(position - k, right), vec![root(left)]].concat()
+    }
+}
+
+/// Where an opening leads, in a tree over a power of two of entries: the own digest is the left child at
+/// level j where bit j of the position is 0.
+pub fn leads_to(entry: &[u8], position: usize, path: &[Digest]) -> Digest {
+    let mut own = leaf(entry);
+    for (level, sibling) in path.iter().enumerate() {
+        own = if position >> level & 1 == 0 { node(&own, sibling) } else { node(sibling, &own) };
+    }
+    own
+}

@@ -1,0 +1,107 @@
+//! The chain of calls: honest lists pass, and what is damaged is refused with its number.
+
+use lomvuze_reference::calls;
+use lomvuze_reference::field::P;
+use lomvuze_samples::{number_at, put, Chain, Honest, Random, REFERENCE};
+
+fn random_chain(random: &mut Random, list: &Honest) -> Chain {
+    let challenge = list.l + random.below((P - list.l) as usize) as u32;
+    let positions: Vec<u32> = (0..1 + random.below(12.min(4 * list.k as usize)))
+        .map(|_| random.below(4 * list.k as usize) as u32)
+        .collect();
+    Chain::new(&REFERENCE, list, challenge, &positions)
+}
+
+#[test]
+fn honest_lists_pass() {
+    let mut random = Random::new(1);
+    for _ in 0..60 {
+        let list = Honest::of_any_size(&mut random);
+        let chain = random_chain(&mut random, &list);
+        assert_eq!((chain.verify(&REFERENCE, &list), chain.decide(&REFERENCE, &list)), (0, 0));
+    }
+}
+
+#[test]
+fn all_positions_and_largest_sizes() {
+    let mut random = Random::new(2);
+    for list in [Honest::random(&mut random, 6, 64, 64, 8), Honest::random(&mut random, 0, 1, 2, 1)] {
+        let all: Vec<u32> = (0..4 * list.k).collect();
+        for challenge in [list.l, P - 1] {
+            let chain = Chain::new(&REFERENCE, &list, challenge, &all);
+            assert_eq!((chain.verify(&REFERENCE, &list), chain.decide(&REFERENCE, &list)), (0, 0));
+        }
+    }
+}
+
+/// A folded item and its witness are folded again with a fresh one.
+#[test]
+fn folds_of_folds() {
+    let mut random = Random::new(3);
+    let mut list = Honest::random(&mut random, 3, 2, 8, 2);
+    for _ in 0..5 {
+        let chain = random_chain(&mut random, &list);
+        assert_eq!((chain.verify(&REFERENCE, &list), chain.decide(&REFERENCE, &list)), (0, 0));
+        list.items.splice(..list.item_length(), chain.new_item);
+        list.witnesses.splice(..list.witness_length(), chain.new_witness);
+    }
+}
+
+/// One more, modulo p, at a place of a buffer.
+fn bump(buffer: &mut [u8], at: usize) {
+    put(buffer, at, (number_at(buffer, at) + 1) % P);
+}
+
+#[test]
+fn damaged_folds_are_refused() {
+    let mut random = Random::new(4);
+    for _ in 0..20 {
+        let list = Honest::random(&mut random, 2, 3, 4, 3);
+        let chain = random_chain(&mut random, &list);
+        let item = 4 * random.below(6);
+
+        let mut damaged = chain.clone();
+        bump(&mut damaged.new_item, item);
+        assert_eq!(damaged.verify(&REFERENCE, &list), 7);
+
+        let mut damaged = chain.clone();
+        bump(&mut damaged.quotient, 4 * random.below(6));
+        assert_eq!(damaged.verify(&REFERENCE, &list), 7);
+
+        // Any byte of any opening: its value, or a digest of its path.
+        let mut damaged = chain.clone();
+        let opening = random.below(4 * chain.t as usize) * list.opening_length();
+        damaged.openings[opening + 4 + random.below(list.opening_length() - 4)] ^= 1 << random.below(8);
+        assert_eq!(damaged.verify(&REFERENCE, &list), 8);
+        let mut damaged = chain.clone();
+        bump(&mut damaged.openings, opening);
+        assert_eq!(damaged.verify(&REFERENCE, &list), 8);
+
+        // A new item with another witness behind its root: the openings lead to it, and are no combination.
+        let mut other = list.clone();
+        for i in 0..list.l as usize {
+            bump(&mut other.witnesses, i * list.witness_length());
+        }
+        let mut damaged = chain.clone();
+        let w: Vec<u8> = other.witnesses[..list.witness_length()].to_vec();
+        let (mut code, mut root) = (vec![0; 16 * list.k as usize], vec![0; 32]);
+        assert_eq!(calls::encode(list.k, &w, &mut code, &mut root), 0);
+        let end = damaged.new_item.len();
+        damaged.new_item[end - 32..].copy_from_slice(&root);
+        let mut openings = vec![0; chain.t as usize * list.opening_length()];
+        assert_eq!(calls::open(list.k, chain.t, &w, &chain.positions, &mut openings), 0);
+        for (q, opening) in openings.chunks(list.opening_length()).enumerate() {
+            let at = (q * 4 + 3) * list.opening_length();
+            damaged.openings[at..at + opening.len()].copy_from_slice(opening);
+        }
+        assert_eq!(damaged.verify(&REFERENCE, &list), 9);
+
+        // Deciding: another witness, or another e.
+        let mut damaged = chain.clone();
+        bump(&mut damaged.new_witness, 4 * random.below(list.k as usize));
+        assert_eq!(damaged.decide(&REFERENCE, &list), 10);
+        let mut damaged = chain.clone();
+        bump(&mut damaged.new_item, 0);
+        assert_eq!(damaged.decide(&REFERENCE, &list), 11);
+    }
+}

@@ -1,0 +1,118 @@
+//! The vectors of FIPS 180-4 and of RFC 6962 trees.
+
+use lomvuze_reference::sha256::{digest, initial_value, round_constants, Digest};
+use lomvuze_reference::tree::{leads_to, leaf, node, path, root};
+
+fn hex(bytes: &[u8]) -> String {
+    bytes.iter().map(|byte| format!("{byte:02x}")).collect()
+}
+
+fn bytes(hex: &str) -> Vec<u8> {
+    (0..hex.len() / 2).map(|i| u8::from_str_radix(&hex[2 * i..2 * i + 2], 16).unwrap()).collect()
+}
+
+#[test]
+fn constants() {
+    let k = round_constants();
+    assert_eq!((k[0], k[1], k[62], k[63]), (0x428a2f98, 0x71374491, 0xbef9a3f7, 0xc67178f2));
+    let h = initial_value();
+    assert_eq!((h[0], h[7]), (0x6a09e667, 0x5be0cd19));
+}
+
+#[test]
+fn empty_message() {
+    assert_eq!(hex(&digest(b"")), "e3b0c44298fc1c149afbf4c8996fb92427ae41e4649b934ca495991b7852b855");
+}
+
+#[test]
+fn one_block() {
+    assert_eq!(hex(&digest(b"abc")), "ba7816bf8f01cfea414140de5dae2223b00361a396177a9cb410ff61f20015ad");
+}
+
+#[test]
+fn two_blocks() {
+    assert_eq!(
+        hex(&digest(b"abcdbcdecdefdefgefghfghighijhijkijkljklmklmnlmnomnopnopq")),
+        "248d6a61d20638b8e5c026930c3e6039a33ce45964ff2167f6ecedd419db06c1"
+    );
+}
+
+#[test]
+fn a_million_times_a() {
+    assert_eq!(
+        hex(&digest(&vec![b'a'; 1_000_000])),
+        "cdc76e5c9914fb9281a1c7e284d73e67f1809a48a497200e046d39ccc7112cd0"
+    );
+}
+
+/// The entries and roots that are published for RFC 6962 trees of 0 to 8 entries.
+const ENTRIES: [&str; 8] =
+    ["", "00", "10", "2021", "3031", "40414243", "5051525354555657", "606162636465666768696a6b6c6d6e6f"];
+const ROOTS: [&str; 9] = [
+    "e3b0c44298fc1c149afbf4c8996fb92427ae41e4649b934ca495991b7852b855",
+    "6e340b9cffb37a989ca544e6bb780a2c78901d3fb33738768511a30617afa01d",
+    "fac54203e7cc696cf0dfcb42c92a1d9dbaf70ad9e621f4bd8d98662f00e3c125",
+    "aeb6bcfe274b70a14fb067a5e5578264db0fa9b51af5e0ba159158f329e06e77",
+    "d37ee418976dd95753c1c73862b9398fa2a2cf9b4ff0fdfe8b30cd95209614b7",
+    "4e3bbb1f7b478dcfe71fb631631519a3bca12c9aefca1612bfce4c13a86264d4",
+    "76e67dadbcdf1e10e1b74ddc608abd2f98dfb16fbce75277b5232a127f2087ef",
+    "ddb89be403809e325750d3d263cd78929c2942b7942a34b77e122c9594a74c8c",
+    "5dc9da79a70659a9ad559cb701ded9a2ab9d823aad2f4960cfe370eff4604328",
+];
+
+#[test]
+fn published_roots() {
+    let entries: Vec<Vec<u8>> = ENTRIES.iter().map(|entry| bytes(entry)).collect();
+    for n in 0..=8 {
+        assert_eq!(hex(&root(&entries[..n])), ROOTS[n], "{n} entries");
+    }
+}
+
+/// A published path: that of entry 5 in the tree over all eight.
+#[test]
+fn published_path() {
+    let entries: Vec<Vec<u8>> = ENTRIES.iter().map(|entry| bytes(entry)).collect();
+    let expected = [
+        "bc1a0643b12e4d2d7c77918f44e0f4f79a838b6cf9ec5b5c283e1f4d88599e6b",
+        "ca854ea128ed050b41b35ffc1b87b8eb2bde461e9e3b5596ece6b9d5975a0ae0",
+        "d37ee418976dd95753c1c73862b9398fa2a2cf9b4ff0fdfe8b30cd95209614b7",
+    ];
+    assert_eq!(path(5, &entries).iter().map(|digest| hex(digest)).collect::<Vec<_>>(), expected);
+}
+
+/// Trees of two and four entries, with each hashed string written out.
+#[test]
+fn trees_by_hand() {
+    let entries = [[1, 0, 0, 0], [2, 0, 0, 0], [3, 0, 0, 0], [0, 0, 0, 0x78]];
+    let leaves: Vec<Digest> = vec![
+        digest(&[0x00, 1, 0, 0, 0]),
+        digest(&[0x00, 2, 0, 0, 0]),
+        digest(&[0x00, 3, 0, 0, 0]),
+        digest(&[0x00, 0, 0, 0, 0x78]),
+    ];
+    let joined = |left: &Digest, right: &Digest| {
+        let mut message = vec![0x01];
+        message.extend(left);
+        message.extend(right);
+        digest(&message)
+    };
+    let left = joined(&leaves[0], &leaves[1]);
+    let right = joined(&leaves[2], &leaves[3]);
+    assert_eq!(root(&entries[..2]), left);
+    assert_eq!(root(&entries), joined(&left, &right));
+    assert_eq!(leaf(&entries[3]), leaves[3]);
+    assert_eq!(node(&left, &right), joined(&left, &right));
+    assert_eq!(path(1, &entries), [leaves[0], right]);
+    assert_eq!(path(2, &entries), [leaves[3], left]);
+}
+
+#[test]
+fn openings_lead_to_the_root() {
+    let entries: Vec<[u8; 4]> = (0u32..16).map(|i| (i * 77).to_le_bytes()).collect();
+    for position in 0..16 {
+        let path = path(position, &entries);
+        assert_eq!(leads_to(&entries[position], position, &path), root(&entries));
+        assert_ne!(leads_to(&entries[position], position ^ 1, &path), root(&entries));
+        assert_ne!(leads_to(&entries[position ^ 1], position, &path), root(&entries));
+    }
+}

@@ -1,0 +1,99 @@
+//! The data of the C examples: eight statements that a ledger's move balances, and their fold into one.
+//!
+//! Public inputs: 1, the total of two holdings, the payment, the price of a unit. Witness: both holdings
+//! before the move, both after it, the units moved, and three random numbers that the circuit does not use.
+//! Rows: the holdings before have the total; so have those after; the first holding goes down by the units;
+//! units × price = payment.
+
+use crate::{bytes, Chain, Honest, Random, REFERENCE};
+use lomvuze_reference::field::P;
+
+const M: u32 = 2;
+const N: u32 = 4;
+const K: u32 = 8;
+const L: u32 = 8;
+
+const ONE: u32 = 0;
+const TOTAL: u32 = 1;
+const PAYMENT: u32 = 2;
+const PRICE: u32 = 3;
+const BEFORE: [u32; 2] = [N, N + 1];
+const AFTER: [u32; 2] = [N + 2, N + 3];
+const UNITS: u32 = N + 4;
+
+/// The statements, and how they are folded.
+struct Plan {
+    list: Honest,
+    challenge: u32,
+    positions: Vec<u32>,
+}
+
+fn plan() -> Plan {
+    let mut random = Random::new(1);
+    let list = statements(&mut random);
+    let challenge = L + random.below((P - L) as usize) as u32;
+    let positions = (0..16).map(|_| random.below(4 * K as usize) as u32).collect();
+    Plan { list, challenge, positions }
+}
+
+impl Plan {
+    /// What both files start with: letters, sizes, circuit and items.
+    fn front(&self, letters: &[u8; 8]) -> Vec<u8> {
+        let Honest { a, b, c, items, .. } = &self.list;
+        let entries = [a, b, c].map(|entries| entries.len() as u32 / 12);
+        let sizes = bytes(&[M, N, K, L, self.positions.len() as u32, self.challenge]);
+        [&letters[..], &sizes, &bytes(&entries), a, b, c, items].concat()
+    }
+}
+
+/// `statements.bin`, before the fold, as `examples/c/README.md` describes it.
+pub fn unfolded() -> Vec<u8> {
+    let plan = plan();
+    [&plan.front(b"lomvuze0")[..], &plan.list.witnesses, &bytes(&plan.positions)].concat()
+}
+
+/// `batch.bin`, the same statements folded, as `examples/c/README.md` describes it.
+pub fn folded() -> Vec<u8> {
+    let plan = plan();
+    let chain = Chain::new(&REFERENCE, &plan.list, plan.challenge, &plan.positions);
+    assert_eq!((chain.verify(&REFERENCE, &plan.list), chain.decide(&REFERENCE, &plan.list)), (0, 0));
+    [
+        &plan.front(b"lomvuze1")[..],
+        &chain.positions,
+        &chain.quotient,
+        &chain.new_item,
+        &chain.openings,
+        &chain.new_witness,
+    ]
+    .concat()
+}
+
+fn statements(random: &mut Random) -> Honest {
+    let a = [
+        [0, BEFORE[0], 1],
+        [0, BEFORE[1], 1],
+        [1, AFTER[0], 1],
+        [1, AFTER[1], 1],
+        [2, BEFORE[0], 1],
+        [2, UNITS, P - 1],
+        [3, UNITS, 1],
+    ];
+    let b = [[0, ONE, 1], [1, ONE, 1], [2, ONE, 1], [3, PRICE, 1]];
+    let c = [[0, TOTAL, 1], [1, TOTAL, 1], [2, AFTER[0], 1], [3, PAYMENT, 1]];
+    let (a, b, c) = (bytes(&a.concat()), bytes(&b.concat()), bytes(&c.concat()));
+    let (mut items, mut witnesses) = (vec![], vec![]);
+    for _ in 0..L {
+        let mut number = |least: u32, below: u32| least + random.below((below - least) as usize) as u32;
+        let before = [number(1000, 100_000), number(1000, 100_000)];
+        let (units, price) = (number(1, 1000), number(1, 10_000));
+        let x = bytes(&[1, before[0] + before[1], units * price, price]);
+        let free = [number(0, P), number(0, P), number(0, P)];
+        let w = [&before[..], &[before[0] - units, before[1] + units, units], &free].concat();
+        let r = bytes(&[number(0, P), number(0, P)]);
+        let mut item = vec![0; (4 + 4 * M + 4 * N + 32) as usize];
+        assert_eq!((REFERENCE.cast)(M, N, K, &a, &b, &c, &r, &x, &bytes(&w), &mut item), 0);
+        items.extend(item);
+        witnesses.extend(bytes(&w));
+    }
+    Honest { m: M, n: N, k: K, l: L, a, b, c, items, witnesses }
+}

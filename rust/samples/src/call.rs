@@ -1,0 +1,259 @@
+//! Random calls of the seven: numbers, buffers that are read and buffers that are written.
+
+use crate::honest::{element_bytes, list_bytes, random_list};
+use crate::{bytes, Chain, Honest, Library, Random, REFERENCE};
+use lomvuze_reference::claims::{self, Circuit, Entry};
+use lomvuze_reference::field::{Element, ONE, P, ZERO};
+
+#[derive(Clone, Copy, PartialEq, Eq, Hash, Debug)]
+pub enum Name {
+    Encode,
+    Cast,
+    Quotient,
+    Fold,
+    Open,
+    Verify,
+    Decide,
+}
+
+pub const NAMES: [Name; 7] =
+    [Name::Encode, Name::Cast, Name::Quotient, Name::Fold, Name::Open, Name::Verify, Name::Decide];
+
+/// What a buffer holds.
+#[derive(Clone, Copy, PartialEq, Eq, Debug)]
+pub enum Part {
+    Entries,
+    R,
+    X,
+    Witness,
+    Witnesses,
+    Codeword,
+    Root,
+    Item,
+    Items,
+    Quotient,
+    Positions,
+    /// Of one witness.
+    Openings,
+    /// Of all items and the new one.
+    AllOpenings,
+}
+use Part::*;
+
+impl Name {
+    /// The checks that the call runs, in order.
+    pub fn checks(self) -> &'static [u32] {
+        match self {
+            Name::Encode => &[2, 3],
+            Name::Cast => &[2, 3, 4, 11],
+            Name::Quotient => &[2, 3, 4, 10, 11],
+            Name::Fold => &[2, 3, 4, 5, 10, 11],
+            Name::Open => &[2, 3, 6],
+            Name::Verify => &[2, 3, 5, 6, 7, 8, 9],
+            Name::Decide => &[2, 3, 4, 10, 11],
+        }
+    }
+
+    /// The numbers that the call takes; a is the challenge.
+    pub fn numbers(self) -> &'static str {
+        match self {
+            Name::Encode => "k",
+            Name::Cast | Name::Decide => "mnk",
+            Name::Quotient => "mnkl",
+            Name::Fold => "mnkla",
+            Name::Open => "kt",
+            Name::Verify => "mnklta",
+        }
+    }
+
+    /// The buffers that the call reads.
+    pub fn inputs(self) -> &'static [Part] {
+        match self {
+            Name::Encode => &[Witness],
+            Name::Cast => &[Entries, Entries, Entries, R, X, Witness],
+            Name::Quotient | Name::Fold => &[Entries, Entries, Entries, Items, Witnesses],
+            Name::Open => &[Witness, Positions],
+            Name::Verify => &[Items, Positions, Quotient, Item, AllOpenings],
+            Name::Decide => &[Entries, Entries, Entries, Item, Witness],
+        }
+    }
+
+    /// The buffers that the call writes.
+    pub fn outputs(self) -> &'static [Part] {
+        match self {
+            Name::Encode => &[Codeword, Root],
+            Name::Cast => &[Item],
+            Name::Quotient => &[Quotient],
+            Name::Fold => &[Quotient, Item, Witness],
+            Name::Open => &[Openings],
+            Name::Verify | Name::Decide => &[],
+        }
+    }
+}
+
+/// A call with its arguments: the numbers first, then the buffers it reads, then those it writes.
+#[derive(Clone, PartialEq, Debug)]
+pub struct Call {
+    pub name: Name,
+    pub numbers: Vec<u32>,
+    pub inputs: Vec<Vec<u8>>,
+    pub outputs: Vec<Vec<u8>>,
+}
+
+impl Call {
+    pub fn run(&mut self, by: &Library) -> u32 {
+        let n = &self.numbers;
+        let i = &self.inputs;
+        let o = &mut self.outputs;
+        match self.name {
+            Name::Encode => {
+                let [code, root] = &mut o[..] else { unreachable!() };
+                (by.encode)(n[0], &i[0], code, root)
+            }
+            Name::Cast => (by.cast)(n[0], n[1], n[2], &i[0], &i[1], &i[2], &i[3], &i[4], &i[5], &mut o[0]),
+            Name::Quotient => {
+                (by.quotient)(n[0], n[1], n[2], n[3], &i[0], &i[1], &i[2], &i[3], &i[4], &mut o[0])
+            }
+            Name::Fold => {
+                let [quotient, item, witness] = &mut o[..] else { unreachable!() };
+                (by.fold)(
+                    n[0], n[1], n[2], n[3], n[4], &i[0], &i[1], &i[2], &i[3], &i[4], quotient, item, witness,
+                )
+            }
+            Name::Open => (by.open)(n[0], n[1], &i[0], &i[1], &mut o[0]),
+            Name::Verify => {
+                (by.verify)(n[0], n[1], n[2], n[3], n[4], n[5], &i[0], &i[1], &i[2], &i[3], &i[4])
+            }
+            Name::Decide => (by.decide)(n[0], n[1], n[2], &i[0], &i[1], &i[2], &i[3], &i[4]),
+        }
+    }
+
+    /// A call that is accepted, mostly of small sizes.
+    pub fn honest(random: &mut Random, name: Name) -> Call {
+        let list = Honest::of_small_size(random);
+        let t = 1 + random.below(8.min(4 * list.k as usize));
+        Call::over(random, name, list, t)
+    }
+
+    /// A call that is accepted, for an honest list and with t positions. Its output buffers hold random bytes.
+    pub fn over(random: &mut Random, name: Name, list: Honest, t: usize) -> Call {
+        let (m, n, k, l) = (list.m, list.n, list.k, list.l);
+        let a = match random.below(4) {
+            0 => l,
+            1 => P - 1,
+            _ => l + random.below((P - l) as usize) as u32,
+        };
+        let positions: Vec<u32> = (0..t).map(|_| random.below(4 * k as usize) as u32).collect();
+        let first = |part: &[u8], length: usize| part[..length].to_vec();
+        let w = first(&list.witnesses, list.witness_length());
+        let circuit = [list.a.clone(), list.b.clone(), list.c.clone()];
+        let (numbers, inputs) = match name {
+            Name::Encode => (vec![k], vec![w]),
+            Name::Cast => (vec![m, n, k], instance(random, &list)),
+            Name::Quotient => (vec![m, n, k, l], [&circuit[..], &[list.items, list.witnesses]].concat()),
+            Name::Fold => (vec![m, n, k, l, a], [&circuit[..], &[list.items, list.witnesses]].concat()),
+            Name::Open => (vec![k, t as u32], vec![w, bytes(&positions)]),
+            Name::Verify => {
+                let chain = Chain::new(&REFERENCE, &list, a, &positions);
+                let inputs =
+                    vec![list.items, chain.positions, chain.quotient, chain.new_item, chain.openings];
+                (vec![m, n, k, l, t as u32, a], inputs)
+            }
+            Name::Decide => {
+                let item = first(&list.items, list.item_length());
+                (vec![m, n, k], [&circuit[..], &[item, w]].concat())
+            }
+        };
+        let mut call = Call { name, numbers, inputs, outputs: vec![] };
+        call.outputs = name.outputs().iter().map(|part| random.bytes(call.length(*part).unwrap())).collect();
+        call
+    }
+
+    /// Where a number stands.
+    pub fn place_of(&self, letter: char) -> Option<usize> {
+        self.name.numbers().find(letter)
+    }
+
+    /// A number by its letter; 1 if the call does not take it.
+    pub fn number(&self, letter: char) -> usize {
+        self.place_of(letter).map_or(1, |i| self.numbers[i] as usize)
+    }
+
+    pub fn item_length(&self) -> usize {
+        4 + 4 * self.number('m') + 4 * self.number('n') + 32
+    }
+
+    pub fn opening_length(&self) -> usize {
+        4 + 32 * (4 * self.number('k')).max(1).ilog2() as usize
+    }
+
+    /// The length that the numbers give a buffer, permitted ones or not. A list of entries has any.
+    pub fn length(&self, part: Part) -> Option<usize> {
+        let [m, n, k, l, t] = ['m', 'n', 'k', 'l', 't'].map(|letter| self.number(letter));
+        Some(match part {
+            Entries => return None,
+            R => 4 * m,
+            X => 4 * n,
+            Witness => 4 * k,
+            Witnesses => l * 4 * k,
+            Codeword => 16 * k,
+            Root => 32,
+            Item => self.item_length(),
+            Items => l * self.item_length(),
+            Quotient => 4 * l.saturating_sub(1) * (m + 1),
+            Positions => 4 * t,
+            Openings => t * self.opening_length(),
+            AllOpenings => t * (l + 1) * self.opening_length(),
+        })
+    }
+
+    /// Where input i has elements, for lengths that fit.
+    pub fn elements_of(&self, i: usize) -> Vec<usize> {
+        let length = self.inputs[i].len();
+        let item_numbers = 1 + self.number('m') + self.number('n');
+        match self.name.inputs()[i] {
+            Entries => (8..length).step_by(12).collect(),
+            Item | Items => (0..length)
+                .step_by(self.item_length())
+                .flat_map(|at| (0..item_numbers).map(move |j| at + 4 * j))
+                .collect(),
+            AllOpenings => (0..length).step_by(self.opening_length()).collect(),
+            Positions => vec![],
+            _ => (0..length).step_by(4).collect(),
+        }
+    }
+}
+
+/// A circuit with r, x and w whose rows all hold, with the sizes of an honest list and as many entries. In C,
+/// each row has in column 0 the one value that makes it hold.
+fn instance(random: &mut Random, list: &Honest) -> Vec<Vec<u8>> {
+    let (m, columns) = (list.m, list.n + list.k);
+    let (r, mut x, w) =
+        (random.elements(m as usize), random.elements(list.n as usize), random.elements(list.k as usize));
+    if x[0] == ZERO {
+        x[0] = ONE;
+    }
+    let others = (list.c.len() / 12).saturating_sub(1 << m);
+    let mut circuit = Circuit {
+        a: random_list(random, m, 0..columns, list.a.len() / 12),
+        b: random_list(random, m, 0..columns, list.b.len() / 12),
+        c: random_list(random, m, 1..columns, others),
+    };
+    let mut first = vec![];
+    for row in 0..1u32 << m {
+        // The value of the circuit at the corner of the cube that row stands for is the row's own residue.
+        let corner: Vec<Element> = (0..m).map(|b| if row >> b & 1 == 1 { ONE } else { ZERO }).collect();
+        let residue = claims::value(&circuit, &corner, &x, &w);
+        first.push(Entry { row, column: 0, value: residue * x[0].inverse() });
+    }
+    circuit.c.extend(first);
+    circuit.c.sort_by_key(|entry| (entry.row, entry.column));
+    vec![
+        list_bytes(&circuit.a),
+        list_bytes(&circuit.b),
+        list_bytes(&circuit.c),
+        element_bytes(&r),
+        element_bytes(&x),
+        element_bytes(&w),
+    ]
+}

@@ -1,0 +1,77 @@
+//! The chain of calls for an honest list: what folding and opening write, and what verifying and deciding are
+//! lent.
+
+use crate::{bytes, Honest, Library};
+
+/// One fold of an honest list.
+#[derive(Clone, PartialEq, Debug)]
+pub struct Chain {
+    pub challenge: u32,
+    pub t: u32,
+    pub positions: Vec<u8>,
+    pub quotient: Vec<u8>,
+    pub new_item: Vec<u8>,
+    pub new_witness: Vec<u8>,
+    pub openings: Vec<u8>,
+}
+
+impl Chain {
+    /// Folds and opens. Openings lie position by position and, within one, item by item,
+    /// the new item last.
+    pub fn new(by: &Library, list: &Honest, challenge: u32, positions: &[u32]) -> Chain {
+        let (mut quotient, mut new_item, mut new_witness) =
+            (vec![0; list.quotient_length()], vec![0; list.item_length()], vec![0; list.witness_length()]);
+        let answer = (by.fold)(
+            list.m,
+            list.n,
+            list.k,
+            list.l,
+            challenge,
+            &list.a,
+            &list.b,
+            &list.c,
+            &list.items,
+            &list.witnesses,
+            &mut quotient,
+            &mut new_item,
+            &mut new_witness,
+        );
+        assert_eq!(answer, 0);
+
+        let t = positions.len() as u32;
+        let positions = bytes(positions);
+        let mut opened = vec![];
+        for w in list.witnesses.chunks(list.witness_length()).chain([&new_witness[..]]) {
+            let mut openings = vec![0; t as usize * list.opening_length()];
+            assert_eq!((by.open)(list.k, t, w, &positions, &mut openings), 0);
+            opened.push(openings);
+        }
+        let mut openings = vec![];
+        for q in 0..t as usize {
+            for of_item in &opened {
+                openings.extend(&of_item[q * list.opening_length()..(q + 1) * list.opening_length()]);
+            }
+        }
+        Chain { challenge, t, positions, quotient, new_item, new_witness, openings }
+    }
+
+    pub fn verify(&self, by: &Library, list: &Honest) -> u32 {
+        (by.verify)(
+            list.m,
+            list.n,
+            list.k,
+            list.l,
+            self.t,
+            self.challenge,
+            &list.items,
+            &self.positions,
+            &self.quotient,
+            &self.new_item,
+            &self.openings,
+        )
+    }
+
+    pub fn decide(&self, by: &Library, list: &Honest) -> u32 {
+        (by.decide)(list.m, list.n, list.k, &list.a, &list.b, &list.c, &self.new_item, &self.new_witness)
+    }
+}

@@ -1,0 +1,31 @@
+//! Seeded random inputs for tests: numbers, honest lists of items with their circuit and witnesses, as the
+//! bytes that the calls take, and whole calls, honest and damaged.
+
+pub mod batch;
+pub mod call;
+pub mod chain;
+pub mod damage;
+pub mod honest;
+pub mod library;
+pub mod random;
+
+pub use call::{Call, Name, Part, NAMES};
+pub use chain::Chain;
+pub use honest::Honest;
+pub use library::{Library, REFERENCE};
+pub use random::Random;
+
+/// Numbers in four bytes each, lowest first.
+pub fn bytes(numbers: &[u32]) -> Vec<u8> {
+    numbers.iter().flat_map(|number| number.to_le_bytes()).collect()
+}
+
+/// The number that starts at a place of a buffer.
+pub fn number_at(buffer: &[u8], at: usize) -> u32 {
+    u32::from_le_bytes(buffer[at..at + 4].try_into().unwrap())
+}
+
+/// Writes a number at a place of a buffer.
+pub fn put(buffer: &mut [u8], at: usize, number: u32) {
+    buffer[at..at + 4].copy_from_slice(&number.to_le_bytes());
+}

@@ -1,0 +1,34 @@
+//! The seven calls of one implementation, so that two can run the same call.
+
+use lomvuze_reference::calls;
+
+type In<'a> = &'a [u8];
+type Out<'a> = &'a mut [u8];
+
+pub struct Library {
+    pub encode: fn(u32, In, Out, Out) -> u32,
+    pub cast: fn(u32, u32, u32, In, In, In, In, In, In, Out) -> u32,
+    pub quotient: fn(u32, u32, u32, u32, In, In, In, In, In, Out) -> u32,
+    pub fold: fn(u32, u32, u32, u32, u32, In, In, In, In, In, Out, Out, Out) -> u32,
+    pub open: fn(u32, u32, In, In, Out) -> u32,
+    pub verify: fn(u32, u32, u32, u32, u32, u32, In, In, In, In, In) -> u32,
+    pub decide: fn(u32, u32, u32, In, In, In, In, In) -> u32,
+}
+
+/// The library of a module that has the seven calls.
+#[macro_export]
+macro_rules! library {
+    ($calls:ident) => {
+        $crate::Library {
+            encode: $calls::encode,
+            cast: $calls::cast,
+            quotient: $calls::quotient,
+            fold: $calls::fold,
+            open: $calls::open,
+            verify: $calls::verify,
+            decide: $calls::decide,
+        }
+    };
+}
+
+pub const REFERENCE: Library = library!(calls);

@@ -1,0 +1,17 @@
+//! Links the static library of the seven calls, `libverdicts.a`, from `target/staticlib` of the repository
+//! or from the folder that LOMVUZE_STATICLIB names.
+
+use std::path::PathBuf;
+
+fn main() {
+    let folder = match std::env::var_os("LOMVUZE_STATICLIB") {
+        Some(folder) => PathBuf::from(folder),
+        None => PathBuf::from(std::env::var_os("CARGO_MANIFEST_DIR").unwrap()).join("../../target/staticlib"),
+    };
+    let library = folder.join("libverdicts.a");
+    assert!(library.exists(), "{} is missing: build it with `rt staticlib verdicts`", library.display());
+    println!("cargo:rerun-if-env-changed=LOMVUZE_STATICLIB");
+    println!("cargo:rerun-if-changed={}", library.display());
+    println!("cargo:rustc-link-search=native={}", folder.display());
+    println!("cargo:rustc-link-lib=static=verdicts");
+}

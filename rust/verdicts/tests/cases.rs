@@ -1,0 +1,88 @@
+//! The cases of the scope paper that a call can show: the circuit w0 × w1 = x0 with m = 0, n = 1, k = 2.
+
+use lomvuze_reference::field::P;
+use lomvuze_samples::bytes;
+use lomvuze_verdicts as calls;
+
+const A: [u32; 3] = [0, 1, 1];
+const B: [u32; 3] = [0, 2, 1];
+const C: [u32; 3] = [0, 0, 1];
+const ITEM: usize = 4 + 4 + 32;
+
+fn root(w: [u32; 2]) -> Vec<u8> {
+    let (mut code, mut root) = (vec![0; 32], vec![0; 32]);
+    assert_eq!(calls::encode(2, &bytes(&w), &mut code, &mut root), 0);
+    root
+}
+
+fn item(e: u32, x: u32, w: [u32; 2]) -> Vec<u8> {
+    [bytes(&[e, x]), root(w)].concat()
+}
+
+fn cast(x: u32, w: [u32; 2]) -> (u32, Vec<u8>) {
+    let mut out = vec![0; ITEM];
+    let answer =
+        calls::cast(0, 1, 2, &bytes(&A), &bytes(&B), &bytes(&C), &[], &bytes(&[x]), &bytes(&w), &mut out);
+    (answer, out)
+}
+
+fn decide(e: u32, x: u32, w: [u32; 2]) -> u32 {
+    calls::decide(0, 1, 2, &bytes(&A), &bytes(&B), &bytes(&C), &item(e, x, w), &bytes(&w))
+}
+
+/// Quotient, new item and new witness.
+fn fold(challenge: u32, items: &[(u32, [u32; 2])]) -> [Vec<u8>; 3] {
+    let wits: Vec<u8> = items.iter().flat_map(|(_, w)| bytes(w)).collect();
+    let items: Vec<Vec<u8>> = items.iter().map(|(x, w)| item(0, *x, *w)).collect();
+    let (mut quotient, mut new, mut w) = (vec![0; 4 * (items.len() - 1)], vec![0; ITEM], vec![0; 8]);
+    let answer = calls::fold(
+        0,
+        1,
+        2,
+        items.len() as u32,
+        challenge,
+        &bytes(&A),
+        &bytes(&B),
+        &bytes(&C),
+        &items.concat(),
+        &wits,
+        &mut quotient,
+        &mut new,
+        &mut w,
+    );
+    assert_eq!(answer, 0);
+    [quotient, new, w]
+}
+
+#[test]
+fn c1_and_c2() {
+    assert_eq!(cast(6, [2, 3]), (0, item(0, 6, [2, 3])));
+    assert_eq!(cast(21, [4, 5]), (11, vec![0; ITEM]));
+    assert_eq!((decide(0, 6, [2, 3]), decide(P - 1, 21, [4, 5])), (0, 0));
+}
+
+#[test]
+fn c5_to_c7() {
+    let items = [(6, [2, 3]), (20, [4, 5])];
+    assert_eq!(fold(2, &items), [bytes(&[4]), item(8, 34, [6, 7]), bytes(&[6, 7])]);
+    assert_eq!(fold(3, &items), [bytes(&[4]), item(24, 48, [8, 9]), bytes(&[8, 9])]);
+}
+
+/// The second item does not hold. The quotient 3 passes at challenge 2 and at no other permitted one.
+#[test]
+fn c8() {
+    assert_eq!((decide(6, 36, [6, 7]), decide(18, 51, [8, 9])), (0, 11));
+    assert_eq!(decide(21, 51, [8, 9]), 0);
+}
+
+#[test]
+fn c9() {
+    let (mut code, mut root) = (vec![0; 32], vec![0; 32]);
+    assert_eq!(calls::encode(2, &bytes(&[2, 3]), &mut code, &mut root), 0);
+    assert_eq!((&code[..4], &code[16..20]), (&bytes(&[5])[..], &bytes(&[P - 1])[..]));
+}
+
+#[test]
+fn c10() {
+    assert_eq!(fold(1, &[(6, [2, 3])]), [vec![], item(0, 6, [2, 3]), bytes(&[2, 3])]);
+}

@@ -1,0 +1,114 @@
+//! The deepest stack of each call at the greatest sizes is within what `include/lomvuze.h` states. To see it:
+//! `cargo test --release --offline -p lomvuze-verdicts --test stack -- --nocapture`.
+//!
+//! A thread runs the call on a stack of our own that is painted before: the deepest word that has changed says
+//! how far the call came. Counted from the frame that makes the call, so passing the arguments is included.
+
+use lomvuze_samples::{library, Call, Honest, Library, Name, Random, NAMES};
+use lomvuze_verdicts as calls;
+use std::ffi::c_void;
+use std::hint::black_box;
+use std::mem::size_of;
+use std::ptr::null_mut;
+
+const PROVED: Library = library!(calls);
+
+/// No call may take more.
+const MOST: usize = 64 * 1024;
+
+// ---- POSIX threads, with the sizes of 64-bit Linux
+
+#[repr(C, align(16))]
+struct Attributes([u8; 64]);
+
+extern "C" {
+    fn pthread_attr_init(attributes: *mut Attributes) -> i32;
+    fn pthread_attr_setstack(attributes: *mut Attributes, lowest: *mut c_void, bytes: usize) -> i32;
+    fn pthread_create(
+        thread: *mut usize,
+        attributes: *const Attributes,
+        start: extern "C" fn(*mut c_void) -> *mut c_void,
+        argument: *mut c_void,
+    ) -> i32;
+    fn pthread_join(thread: usize, result: *mut *mut c_void) -> i32;
+}
+
+// ---- The painted stack
+
+const PAINT: u64 = 0x9e37_79b9_7f4a_7c15;
+const STACK_BYTES: usize = 1 << 20;
+
+#[derive(Clone, Copy)]
+#[repr(C, align(4096))]
+struct Page([u64; 512]);
+
+struct Run {
+    call: Call,
+    answer: u32,
+    /// Where the frame stands that makes the call.
+    frame: usize,
+}
+
+extern "C" fn run(argument: *mut c_void) -> *mut c_void {
+    let run = unsafe { &mut *argument.cast::<Run>() };
+    let local = 0u64;
+    run.frame = black_box(&local) as *const u64 as usize;
+    run.answer = run.call.run(&PROVED);
+    null_mut()
+}
+
+/// The bytes of stack that a call takes, and its answer.
+fn depth(call: Call) -> (usize, u32) {
+    let mut stack = vec![Page([PAINT; 512]); STACK_BYTES / size_of::<Page>()];
+    let mut run_of = Run { call, answer: u32::MAX, frame: 0 };
+    let (mut attributes, mut thread) = (Attributes([0; 64]), 0);
+    unsafe {
+        let lowest = stack.as_mut_ptr().cast();
+        assert_eq!(pthread_attr_init(&mut attributes), 0);
+        assert_eq!(pthread_attr_setstack(&mut attributes, lowest, STACK_BYTES), 0);
+        assert_eq!(pthread_create(&mut thread, &attributes, run, (&mut run_of as *mut Run).cast()), 0);
+        assert_eq!(pthread_join(thread, null_mut()), 0);
+    }
+    let painted = stack.iter().flat_map(|page| page.0).take_while(|word| *word == PAINT).count();
+    (run_of.frame - (stack.as_ptr() as usize + 8 * painted), run_of.answer)
+}
+
+// ---- What the header states
+
+/// From the line of the call in the header's list of stacks: its name, then the bytes.
+fn stated(name: Name) -> usize {
+    let header = include_str!("../../../include/lomvuze.h");
+    let call = format!("lomvuze_{}", format!("{name:?}").to_lowercase());
+    let list = header.split("deepest stack of each call").nth(1).unwrap();
+    let line = list.lines().find(|line| line.contains(&call)).unwrap();
+    line.split_whitespace().last().unwrap().replace(',', "").parse().unwrap()
+}
+
+fn test(name: Name, call: Call) -> usize {
+    let (bytes, answer) = depth(call);
+    assert_eq!(answer, 0, "{name:?}");
+    assert!(bytes <= stated(name), "{name:?} takes {bytes} bytes of stack");
+    assert!(stated(name) <= MOST, "{name:?}");
+    bytes
+}
+
+#[test]
+#[cfg_attr(debug_assertions, ignore = "a caller that is not optimised takes more stack itself")]
+fn at_the_greatest_sizes() {
+    let mut random = Random::new(1);
+    let list = Honest::greatest(&mut random);
+    for name in NAMES {
+        println!("{name:?} {}", test(name, Call::over(&mut random, name, list.clone(), 256)));
+    }
+}
+
+#[test]
+#[cfg_attr(debug_assertions, ignore = "a caller that is not optimised takes more stack itself")]
+fn at_other_sizes() {
+    let mut random = Random::new(2);
+    for name in NAMES {
+        for _ in 0..100 {
+            test(name, Call::honest(&mut random, name));
+        }
+    }
+}
