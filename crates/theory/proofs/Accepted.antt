@@ -12,8 +12,9 @@ use Rattle.algebra.proofs.ListLaws.{length-build}
 use Rattle.numbers.proofs.Bytes.{length-numbers}
 use Rattle.numbers.proofs.Bounds.{below}
 use Rattle.field.specs.BabyBear.{p, babyBear, F}
-use Rattle.tree.specs.Layout.{digests, openingSize}
+use Rattle.tree.specs.Layout.{openingSize}
 use Rattle.code.specs.Points.{isWitnessCount, depth}
+use Rattle.tree.proofs.ReadBack.{digests-length}
 use Rattle.theory.specs.Items.{Item}
 use Rattle.theory.specs.Combination.{newR, newX, newE, quotientSize, Shaped}
 use Rattle.theory.specs.Folds.{Opening, Shown, Fold, positionCount, openingAt}
@@ -28,11 +29,6 @@ use Rattle.theory.proofs.CheckLaws.{and-left, and-right, each-true, eve
 use Rattle.theory.proofs.Challenges.{permitted-below}
 use Rattle.theory.proofs.Equality.{equal-bytes, equal-element, equal-elements}
 use Rattle.theory.proofs.Reading.{length-readItems, read-shaped, openingAt-readShown}
-
-length-digests : (s : List ℕ) (at n : ℕ) → length (digests s at n) ≡ n
-unfolding digests
-length-digests s at zero = refl
-length-digests s at (suc n) = ap suc (length-digests s (at + 32) n)
 
 module _ (m n k l : ℕ) (a b c items quotient : List ℕ) (f : FoldBytes) (accepted : isAccepted m n k l a b c items quotient f ≡ true) where
   abbrev batch : List (Item F)
@@ -119,7 +115,7 @@ module _ (m n k l : ℕ) (a b c items quotient : List ℕ) (f : FoldBytes) (acce
   siblings q h i j =
       ap (λ (o : Opening F). length (o .siblings))
       (openingAt-readShown m n k l (f .t) (f .challenge) items (f .positions) (f .item) (f .openings) q i (omega (arith, position-count)) (omega (arith, item-count)))
-      ∙ length-digests (f .openings) _ (depth k)
+      ∙ digests-length (f .openings) _ (depth k)
 
   pub passes : Passes babyBear sha (code k) (circuit a b c) m n batch coefficients fold
   passes = record {

@@ -1,6 +1,6 @@
--- Laws of tests: two that hold together, one test of each number that agrees with another, and equality of elements as equality of numbers.
+-- Laws of tests: one test of each number that agrees with another, and equality of elements as equality of numbers.
 use mathlib.Core.Path.{_≡_, refl, sym, ap, ap₂, _∙_}
-use mathlib.Core.Bool.{Bool, true, false, _&&_}
+use mathlib.Core.Bool.{Bool, true, _&&_}
 use mathlib.Core.List.{List}
 use Prim.Native.Nat.{ℕ, zero, suc, _<_}
 use native.Mathlib.Omega.{arith}
@@ -11,12 +11,7 @@ use Rattle.field.proofs.Laws.{val-small, ofℕ-of}
 use Rattle.theory.specs.Checks.{every}
 use Rattle.theory.specs.Calls.{sameBytes, sameElement}
 use Rattle.theory.proofs.Equality.{same-bytes, equal-bytes, same-element, equal-element}
-
--- Two tests that pass together are equal.
-pub same-test : (a b : Bool) → (a ≡ true → b ≡ true) → (b ≡ true → a ≡ true) → a ≡ b
-same-test true b f g = sym (f refl)
-same-test false true f g = g refl
-same-test false false f g = refl
+use Rattle.checks.proofs.ItemTests.{same-test}
 
 -- Tests that agree at each number below n.
 pub every-cong : (n : ℕ) (f g : ℕ → Bool) → ((i : ℕ) → i < n → f i ≡ g i) → every n f ≡ every n g
