@@ -64,6 +64,10 @@ pub All-map : {A : Type 0} {P Q : A → Type 0} → ((x : A) → P x → Q x) �
 All-map f [] h = tt
 All-map f (a ∷ l) h = (f a (h .0), All-map f l (h .1))
 
+pub All-append : {A : Type 0} (P : A → Type 0) (xs ys : List A) → All P xs → All P ys → All P (xs ++ ys)
+All-append P [] ys h g = g
+All-append P (x ∷ xs) ys h g = (h .0, All-append P xs ys (h .1) g)
+
 pub All-build : {A : Type 0} (P : A → Type 0) (n : ℕ) (f : ℕ → A) → ((i : ℕ) → i < n → P (f i)) → All P (build n f)
 All-build P zero f h = tt
 All-build P (suc n) f h = (h 0 (omega arith), All-build P n (λ i. f (suc i)) (λ i l. h (suc i) (omega arith)))

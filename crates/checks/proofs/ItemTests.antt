@@ -1,6 +1,6 @@
 -- Parts of an item in a byte buffer, and the tests of its numbers and its root.
-use mathlib.Core.Path.{_≡_, refl, sym, ap, ap₂, _∙_}
-use mathlib.Core.Bool.{Bool, true, false, false≢true}
+use mathlib.Core.Path.{_≡_, sym, ap, ap₂, _∙_}
+use mathlib.Core.Bool.{Bool, true}
 use mathlib.Core.List.{List}
 use Prim.Native.Nat.{ℕ, _+_, _-_, _*_, _≤_, _<_}
 use native.Mathlib.Omega.{arith}
@@ -23,19 +23,9 @@ use Rattle.theory.specs.Calls.{sameBytes, sameElement, matches, holds}
 use Rattle.theory.proofs.CheckLaws.{every-true}
 use Rattle.theory.proofs.Parts.{length-part}
 use Rattle.theory.proofs.ElementBytes.{numbers-part}
-use Rattle.theory.proofs.Equality.{same-bytes, same-element, equal-bytes, equal-element}
+use Rattle.theory.proofs.Equality.{same-element, equal-element, same-test, bytes-test}
 
 -- ---- tests
-
--- Two tests that pass together are the same.
-pub same-test : (a b : Bool) → (a ≡ true → b ≡ true) → (b ≡ true → a ≡ true) → a ≡ b
-same-test true b f g = sym (f refl)
-same-test false true f g = absurd (false≢true (g refl))
-same-test false false f g = refl
-
--- A test that passes exactly for equal byte strings.
-pub bytes-test : (r : Bool) (a b : List ℕ) → (r ≡ true → a ≡ b) × (a ≡ b → r ≡ true) → r ≡ sameBytes a b
-bytes-test r a b h = same-test r (sameBytes a b) (λ e. same-bytes (h .0 e)) (λ e. h .1 (equal-bytes a b e))
 
 -- Elements are equal exactly if their numbers are.
 pub element-test : (v : F) (e : ℕ) → e < p → eqb (val v) e ≡ sameElement v (ofℕ e)
@@ -92,10 +82,11 @@ module _ (m n : ℕ) (b : List ℕ) (size : length b ≡ itemSize m n) where
   pub x-length : length xBytes ≡ 4 * n
   x-length = ap length x-part ∙ length-part b (4 * (1 + m)) (4 * n) (omega arith)
 
-  elements-r : elements m rBytes ≡ build m (λ j. elementAt b (1 + j))
+  -- Their elements are those of the item.
+  pub elements-r : elements m rBytes ≡ build m (λ j. elementAt b (1 + j))
   elements-r = ap (elements m) r-part ∙ elements-part b 1 m (omega arith)
 
-  elements-x : elements n xBytes ≡ build n (λ j. elementAt b (1 + m + j))
+  pub elements-x : elements n xBytes ≡ build n (λ j. elementAt b (1 + m + j))
   elements-x = ap (elements n) x-part ∙ elements-part b (1 + m) n (omega arith)
 
   module _ (small : itemBelow m n b ≡ true) where

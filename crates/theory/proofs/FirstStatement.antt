@@ -6,7 +6,7 @@ use Prim.Native.Nat.{ℕ, suc, _*_}
 use borrow.Author.Tests.{eq-eqb}
 use lib.ListN.{length}
 use Rattle.algebra.specs.Lists.{All, build}
-use Rattle.algebra.proofs.ListLaws.{All-build}
+use Rattle.algebra.proofs.ListLaws.{All-append, All-build}
 use Rattle.field.specs.BabyBear.{babyBear, R, F, ofℕ}
 use Rattle.code.specs.Points.{depth}
 use Rattle.theory.specs.R1cs.{value}
@@ -127,10 +127,6 @@ module _ {m n k l t : ℕ} {a b c items wits positions quotient item wit : List 
 
   deciding-zero : deciding m n k l t challenge a b c items wits positions quotient item wit openings ≡ 0
   deciding-zero = ap₂ (λ (i w : List ℕ). decide m n k a b c i w) (wrote-item honest outputs challenge permitted) (wrote-witness honest outputs challenge permitted) ∙ decided
-
-All-append : {A : Type 0} (P : A → Type 0) (xs ys : List A) → All P xs → All P ys → All P (xs ++ ys)
-All-append P [] ys h g = g
-All-append P (x ∷ xs) ys h g = (h .0, All-append P xs ys (h .1) g)
 
 pub first-statement : FirstStatement
 first-statement m n k l t challenge a b c items wits positions quotient item wit openings honest permitted allowed outputs = (

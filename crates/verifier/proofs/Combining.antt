@@ -23,8 +23,7 @@ use Rattle.theory.specs.Buffers.{numberAt, elementAt, elements, readItem, readI
 use Rattle.theory.specs.Sizes.{elementsBelow, itemBelow}
 use Rattle.theory.specs.Calls.{sameElement, sameElements, readShown, combines}
 use Rattle.theory.proofs.CheckLaws.{_&_, and-left, and-right, every-true, true-every}
-use Rattle.theory.proofs.Equality.{same-element, same-elements, equal-element, equal-elements}
-use Rattle.checks.proofs.ItemTests.{same-test}
+use Rattle.theory.proofs.Equality.{same-element, same-elements, equal-element, equal-elements, same-test}
 use Rattle.fold.proofs.NewItem.{build-append}
 
 -- ---- the quotient's elements

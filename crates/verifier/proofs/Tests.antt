@@ -10,8 +10,7 @@ use Rattle.field.specs.BabyBear.{p, F, val, ofℕ}
 use Rattle.field.proofs.Laws.{val-small, ofℕ-of}
 use Rattle.theory.specs.Checks.{every}
 use Rattle.theory.specs.Calls.{sameBytes, sameElement}
-use Rattle.theory.proofs.Equality.{same-bytes, equal-bytes, same-element, equal-element}
-use Rattle.checks.proofs.ItemTests.{same-test}
+use Rattle.theory.proofs.Equality.{same-bytes, equal-bytes, same-element, equal-element, same-test}
 
 -- Tests that agree at each number below n.
 pub every-cong : (n : ℕ) (f g : ℕ → Bool) → ((i : ℕ) → i < n → f i ≡ g i) → every n f ≡ every n g
