@@ -2,4 +2,5 @@
 mod codes;
 mod fields;
 mod hashes;
+mod sheets;
 mod trees;

@@ -1,6 +1,8 @@
-// The seven calls for C. Each tests its own input and answers 0, or the number of the first check that fails; a refusal writes nothing.
+// The seven calls and the sheet reader for C. Each tests its own input and answers 0, or the number of the first check that fails; a refusal writes nothing.
 ghost use mathlib.Core.Path.{_≡_};
+ghost use Rattle.theory.specs.Checks.{written};
 ghost use Rattle.theory.specs.Calls.{encode, cast, quotient, fold, «open», verify, decide};
+ghost use Rattle.sheet.specs.Reading.{readSheet, sizesOf};
 
 // Writes the codeword of a witness and its root. Checks 2 and 3.
 #[no_mangle]
@@ -153,4 +155,32 @@ pub extern "C" fn lomvuze_decide(
     ensures { λ r. ⌜ r ≡ decide m n k (now (a .entry)) (now (b .entry)) (now (c .entry)) (now (item .entry)) (now (wit .entry)) ⌝ }
 {
     decider::decide::decide(m, n, k, a, b, c, item, wit)
+}
+
+// Reads a sheet into buffers of the greatest lengths; sizes gets m, n, k, the entries of A, B and C, and the count of pairs. Checks 1 to 4.
+#[no_mangle]
+pub extern "C" fn lomvuze_read_sheet(
+    sheet: &[u8],
+    a: &mut [u8],
+    b: &mut [u8],
+    c: &mut [u8],
+    items: &mut [u8],
+    wits: &mut [u8],
+    sizes: &mut [u32; 7],
+) -> u32
+    ensures answer { λ r. ⌜ r ≡ readSheet (now (sheet .entry)) (now (a .entry)) (now (b .entry)) (now (c .entry)) (now (items .entry)) (now (wits .entry)) .result .answer ⌝ }
+    ensures sizes { λ r. ⌜ now (sizes .exit) ≡ written r (sizesOf (readSheet (now (sheet .entry)) (now (a .entry)) (now (b .entry)) (now (c .entry)) (now (items .entry)) (now (wits .entry)) .result)) (now (sizes .entry)) ⌝ }
+    ensures a { λ r. ⌜ now (a .exit) ≡ readSheet (now (sheet .entry)) (now (a .entry)) (now (b .entry)) (now (c .entry)) (now (items .entry)) (now (wits .entry)) .a ⌝ }
+    ensures b { λ r. ⌜ now (b .exit) ≡ readSheet (now (sheet .entry)) (now (a .entry)) (now (b .entry)) (now (c .entry)) (now (items .entry)) (now (wits .entry)) .b ⌝ }
+    ensures c { λ r. ⌜ now (c .exit) ≡ readSheet (now (sheet .entry)) (now (a .entry)) (now (b .entry)) (now (c .entry)) (now (items .entry)) (now (wits .entry)) .c ⌝ }
+    ensures items { λ r. ⌜ now (items .exit) ≡ readSheet (now (sheet .entry)) (now (a .entry)) (now (b .entry)) (now (c .entry)) (now (items .entry)) (now (wits .entry)) .items ⌝ }
+    ensures wits { λ r. ⌜ now (wits .exit) ≡ readSheet (now (sheet .entry)) (now (a .entry)) (now (b .entry)) (now (c .entry)) (now (items .entry)) (now (wits .entry)) .wits ⌝ }
+{
+    let r = sheet::read::read(sheet, a, b, c, items, wits);
+    let answer = r.answer;
+    if answer == 0 {
+        let found = [r.m, r.n, r.k, r.a, r.b, r.c, r.pairs];
+        *sizes = found;
+    }
+    answer
 }

@@ -1,0 +1,84 @@
+-- Where the fields and lines of a text lie: the field and the line that start at an index, and what is read there.
+use mathlib.Core.Bool.{Bool, true, false, cond, _&&_, _||_}
+use mathlib.Core.Path.{_≡_}
+use mathlib.Core.List.{List, [], _∷_, _++_, map}
+use Prim.Native.Nat.{ℕ, _+_, _*_, _≤_, min}
+use lib.ListN.{length, getD, take, drop, replicate}
+use lib.Dec.{eqb, leb, ltb}
+use Rattle.numbers.specs.Numbers.{bytes}
+use Rattle.lines.specs.declared.number.Number.{Number}
+use Rattle.lines.specs.declared.number.Number.the-variants as number
+use Rattle.lines.specs.declared.root.Root.{Root}
+use Rattle.lines.specs.declared.row.Row.{Row}
+use Rattle.lines.specs.declared.row.Row.the-variants as row
+use Rattle.lines.specs.Text.{every, decimal, isNumber, isRoot, hexBytes, fields}
+use Rattle.lines.specs.Lines.{front, last}
+
+-- The bytes up to the first tab or byte 10, and those up to the first byte 10.
+unfoldable pub field : List ℕ → List ℕ
+field [] = []
+field (x ∷ xs) = cond (eqb x 9 || eqb x 10) [] (x ∷ field xs)
+
+unfoldable pub line : List ℕ → List ℕ
+line [] = []
+line (x ∷ xs) = cond (eqb x 10) [] (x ∷ line xs)
+
+-- The field that starts at an index, and where it ends.
+abbrev pub fieldAt : List ℕ → ℕ → List ℕ
+fieldAt s at = field (drop at s)
+
+abbrev pub fieldEnd : List ℕ → ℕ → ℕ
+fieldEnd s at = at + length (fieldAt s at)
+
+-- The rest of the line from an index on, its fields, and where the next line starts: behind byte 10, or at the text's end.
+abbrev pub lineAt : List ℕ → ℕ → List ℕ
+lineAt s at = line (drop at s)
+
+abbrev pub fieldsAt : List ℕ → ℕ → List (List ℕ)
+fieldsAt s at = fields (lineAt s at)
+
+abbrev pub nextLine : List ℕ → ℕ → ℕ
+nextLine s at = min (at + length (lineAt s at) + 1) (length s)
+
+-- The field as a number, and where it ends.
+unfoldable pub numberAt : List ℕ → ℕ → Number
+numberAt s at = cond (isNumber (fieldAt s at)) (number.Value (decimal (fieldAt s at)) (fieldEnd s at)) number.Bad
+
+-- The same where a tab ends the field.
+unfoldable pub numberBeforeTab : List ℕ → ℕ → Number
+numberBeforeTab s at = cond (ltb (fieldEnd s at) (length s) && eqb (getD s (fieldEnd s at) 0) 9) (numberAt s at) number.Bad
+
+-- The field as a root; 32 zeros where it is none.
+abbrev pub zeros : ℕ → List ℕ
+zeros n = replicate n 0
+
+unfoldable pub rootAt : List ℕ → ℕ → Root
+rootAt s at = cond (isRoot (fieldAt s at)) (record { valid = true; bytes = hexBytes (fieldAt s at) }) (record { valid = false; bytes = zeros 32 })
+
+-- The rest of the line as numbers, behind `count` others.
+unfoldable pub numbersAt : List ℕ → ℕ → ℕ → Row
+numbersAt s at count = cond (every isNumber (fieldsAt s at)) (row.Read (count + length (fieldsAt s at)) (nextLine s at)) row.Bad
+
+-- The same as numbers and a root, which takes the place of eight, and as a number and those.
+abbrev pub isTail : List (List ℕ) → Bool
+isTail fs = every isNumber (front fs) && isRoot (last fs)
+
+unfoldable pub tailAt : List ℕ → ℕ → ℕ → Row
+tailAt s at count = cond (isTail (fieldsAt s at)) (row.Read (count + length (front (fieldsAt s at)) + 8) (nextLine s at)) row.Bad
+
+abbrev pub isItem : List (List ℕ) → Bool
+isItem fs = every isNumber (front fs) && leb 1 (length (front fs)) && isRoot (last fs)
+
+unfoldable pub itemAt : List ℕ → ℕ → ℕ → Row
+itemAt s at count = cond (isItem (fieldsAt s at)) (row.Read (count + length (front (fieldsAt s at)) + 8) (nextLine s at)) row.Bad
+
+-- What those lines append to a buffer.
+abbrev pub numberBytes : List (List ℕ) → List ℕ
+numberBytes fs = bytes (map decimal fs)
+
+abbrev pub itemBytes : List (List ℕ) → List ℕ
+itemBytes fs = numberBytes (front fs) ++ hexBytes (last fs)
+
+-- xs was put behind the first `count` numbers of a buffer, if there is room.
+abbrev pub Appended : ℕ → List ℕ → List ℕ → List ℕ → Type 0
+Appended count xs held now = (length now ≡ length held) × (4 * count + length xs ≤ length held → now ≡ take (4 * count) held ++ (xs ++ drop (4 * count + length xs) held))

@@ -1,0 +1,81 @@
+-- What a line of a sheet says: its keyword, its numbers and, on an item's line, its root.
+use mathlib.Core.Bool.{Bool, false, cond, _&&_}
+use mathlib.Core.List.{List, [], _∷_, map}
+use Prim.Native.Nat.{ℕ}
+use lib.ListN.{length}
+use lib.Dec.{eqb, leb}
+use Rattle.theory.specs.Calls.{sameBytes}
+use Rattle.lines.specs.declared.keyword.Keyword.{Keyword}
+use Rattle.lines.specs.declared.keyword.Keyword.the-variants.{Size, EntryA, EntryB, EntryC, Item, Wit, End, None}
+use Rattle.lines.specs.Text.{every, decimal, isNumber, isRoot, hexBytes, fields}
+
+-- The keyword that a field is; None for any other field.
+abbrev pub keywordOf : List ℕ → Keyword
+keywordOf f =
+    cond (sameBytes f (97 ∷ [])) EntryA  -- a
+    (cond (sameBytes f (98 ∷ [])) EntryB  -- b
+    (cond (sameBytes f (99 ∷ [])) EntryC  -- c
+    (cond (sameBytes f (105 ∷ 116 ∷ 101 ∷ 109 ∷ [])) Item  -- item
+    (cond (sameBytes f (119 ∷ 105 ∷ 116 ∷ [])) Wit  -- wit
+    (cond (sameBytes f (115 ∷ 105 ∷ 122 ∷ 101 ∷ [])) Size  -- size
+    (cond (sameBytes f (101 ∷ 110 ∷ 100 ∷ [])) End None))))))  -- end
+
+-- How many numbers a line may have. More than the least on a line `item` or `wit` is a matter of check 2.
+abbrev pub countFits : Keyword → ℕ → Bool
+countFits Size count = eqb count 3
+countFits EntryA count = eqb count 3
+countFits EntryB count = eqb count 3
+countFits EntryC count = eqb count 3
+countFits Item count = leb 1 count
+countFits Wit count = leb 1 count
+countFits End count = eqb count 1
+countFits None count = false
+
+pub record Line : Type 0 where
+  pub keyword : Keyword
+  pub numbers : List ℕ
+  pub root : List ℕ
+
+-- A line that breaks the rules.
+abbrev pub broken : Line
+broken = record { keyword = None; numbers = []; root = [] }
+
+-- A keyword and numbers.
+abbrev pub numbersLine : Keyword → List (List ℕ) → Line
+numbersLine w fs = cond (every isNumber fs && countFits w (length fs)) (record { keyword = w; numbers = map decimal fs; root = [] }) broken
+
+-- The fields before the last, and the last.
+unfoldable pub front : List (List ℕ) → List (List ℕ)
+front [] = []
+front (f ∷ []) = []
+front (f ∷ g ∷ fs) = f ∷ front (g ∷ fs)
+
+unfoldable pub last : List (List ℕ) → List ℕ
+last [] = []
+last (f ∷ []) = f
+last (f ∷ g ∷ fs) = last (g ∷ fs)
+
+-- The keyword `item`, numbers and a root.
+abbrev pub itemLine : List (List ℕ) → Line
+itemLine fs =
+    cond (every isNumber (front fs) && countFits Item (length (front fs)) && isRoot (last fs))
+    (record { keyword = Item; numbers = map decimal (front fs); root = hexBytes (last fs) })
+    broken
+
+-- The line of a keyword and the fields behind it.
+abbrev pub lineWith : Keyword → List (List ℕ) → Line
+lineWith Size fs = numbersLine Size fs
+lineWith EntryA fs = numbersLine EntryA fs
+lineWith EntryB fs = numbersLine EntryB fs
+lineWith EntryC fs = numbersLine EntryC fs
+lineWith Item fs = itemLine fs
+lineWith Wit fs = numbersLine Wit fs
+lineWith End fs = numbersLine End fs
+lineWith None fs = broken
+
+abbrev pub lineOfFields : List (List ℕ) → Line
+lineOfFields [] = broken
+lineOfFields (f ∷ fs) = lineWith (keywordOf f) fs
+
+unfoldable pub lineOf : List ℕ → Line
+lineOf text = lineOfFields (fields text)

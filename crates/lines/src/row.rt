@@ -1,0 +1,111 @@
+// The numbers of a line, and an item's numbers and root, read field by field and appended to a buffer as they are read.
+ghost use mathlib.Core.Path.{_≡_};
+ghost use mathlib.Core.Bool.{true};
+ghost use Prim.Native.Nat.{_≤_};
+ghost use lib.ListN.{length};
+ghost use Rattle.numbers.specs.Numbers.{bytes4};
+ghost use Rattle.lines.specs.Text.{every, isNumber};
+ghost use Rattle.lines.specs.Cursor.{fieldsAt, numbersAt, isTail, tailAt, isItem, itemAt, numberBytes, itemBytes, Appended};
+use crate::number;
+use crate::number::Number;
+use crate::root;
+
+// How many numbers the buffer has then, and where the next line starts.
+pub enum Row {
+    Read(usize, usize),
+    Bad,
+}
+
+// Puts a number behind the first `count` of a buffer, if there is room.
+fn append(buffer: &mut [u8], count: usize, x: u32)
+    requires { ⌜ count ≤ 60000 ⌝ }
+    ensures { λ _. ⌜ Appended count (bytes4 x) (now (buffer .entry)) (now (buffer .exit)) ⌝ }
+{
+    if 4 * count + 4 <= buffer.len() {
+        numbers::put(buffer, count, x);
+    }
+}
+
+// Puts a root behind the first `count` numbers of a buffer, if there is room.
+fn append_root(buffer: &mut [u8], count: usize, root: [u8; 32])
+    requires { ⌜ count ≤ 60000 ⌝ }
+    ensures { λ _. ⌜ Appended count root (now (buffer .entry)) (now (buffer .exit)) ⌝ }
+{
+    let start = 4 * count;
+    let end = start + 32;
+    if end <= buffer.len() {
+        bytes::copy(&root, &mut buffer[start..end]);
+    }
+}
+
+// Reads the rest of the line as numbers and appends them to the first `count` of the buffer.
+pub fn read_numbers(s: &[u8], at: usize, buffer: &mut [u8], count: usize) -> Row
+    requires { ⌜ (at ≤ length (now s)) × (length (now s) ≤ 60000) × (count ≤ at) ⌝ }
+    ensures row { λ r. ⌜ r ≡ numbersAt (now (s .entry)) at count ⌝ }
+    ensures buffer { λ _. ⌜ (every isNumber (fieldsAt (now (s .entry)) at) ≡ true → Appended count (numberBytes (fieldsAt (now (s .entry)) at)) (now (buffer .entry)) (now (buffer .exit))) ⌝ }
+{
+    let mut place = at;
+    let mut n = count;
+    loop {
+        let field = number::number_at(s, place);
+        let Number::Value(x, end) = field else {
+            return Row::Bad;
+        };
+        append(buffer, n, x);
+        n += 1;
+        if end == s.len() {
+            return Row::Read(n, end);
+        }
+        place = end + 1;
+        if s[end] == 10 {
+            return Row::Read(n, place);
+        }
+    }
+}
+
+// Reads the rest of the line as numbers, if any, and a root, and appends them to the first `count` numbers of the buffer.
+fn read_tail(s: &[u8], at: usize, buffer: &mut [u8], count: usize) -> Row
+    requires { ⌜ (at ≤ length (now s)) × (length (now s) ≤ 60000) × (count ≤ at) ⌝ }
+    ensures row { λ r. ⌜ r ≡ tailAt (now (s .entry)) at count ⌝ }
+    ensures buffer { λ _. ⌜ (isTail (fieldsAt (now (s .entry)) at) ≡ true → Appended count (itemBytes (fieldsAt (now (s .entry)) at)) (now (buffer .entry)) (now (buffer .exit))) ⌝ }
+{
+    let mut place = at;
+    let mut n = count;
+    loop {
+        let field = number::before_tab(s, place);
+        let Number::Value(x, end) = field else {
+            break;
+        };
+        append(buffer, n, x);
+        n += 1;
+        place = end + 1;
+    }
+    let root = root::root_at(s, place);
+    if !root.valid {
+        return Row::Bad;
+    }
+    let digest = root.bytes;
+    append_root(buffer, n, digest);
+    let end = place + 64;
+    if end == s.len() {
+        return Row::Read(n + 8, end);
+    }
+    if s[end] == 9 {
+        return Row::Bad;
+    }
+    Row::Read(n + 8, end + 1)
+}
+
+// Reads the rest of the line as one number or more and a root, and appends them to the first `count` numbers of the buffer.
+pub fn read_item(s: &[u8], at: usize, buffer: &mut [u8], count: usize) -> Row
+    requires { ⌜ (at ≤ length (now s)) × (length (now s) ≤ 60000) × (count ≤ at) ⌝ }
+    ensures row { λ r. ⌜ r ≡ itemAt (now (s .entry)) at count ⌝ }
+    ensures buffer { λ _. ⌜ (isItem (fieldsAt (now (s .entry)) at) ≡ true → Appended count (itemBytes (fieldsAt (now (s .entry)) at)) (now (buffer .entry)) (now (buffer .exit))) ⌝ }
+{
+    let field = number::before_tab(s, at);
+    let Number::Value(x, end) = field else {
+        return Row::Bad;
+    };
+    append(buffer, count, x);
+    read_tail(s, end + 1, buffer, count + 1)
+}

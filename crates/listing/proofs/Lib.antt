@@ -1,0 +1,4 @@
+mod DigitLaws
+mod ListedLines
+mod ListedSheet
+mod PlacingLaws

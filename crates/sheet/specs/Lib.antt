@@ -1,0 +1,5 @@
+pub mod Sheet
+pub mod Reading
+pub mod Writing
+pub mod Scan
+pub mod Rooms
