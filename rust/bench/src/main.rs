@@ -8,8 +8,11 @@
 mod calls;
 mod clock;
 mod plain;
+mod plain_sheet;
 
 use lomvuze_proved as proved;
+use lomvuze_reference::sheet::{write, MOST_BYTES};
+use lomvuze_samples::sheet::{of_length, Buffers, Shape, GREATEST};
 use lomvuze_samples::{library, Call, Honest, Library, Name, Random};
 use lomvuze_verdicts as verdicts;
 use std::hint::black_box;
@@ -25,27 +28,33 @@ fn seconds<T>(calls: u32, work: &mut impl FnMut() -> T) -> f64 {
     (clock::seconds() - start) / calls as f64
 }
 
-/// One line of the table: both results agree, and the best round of each. A call does `steps` steps.
-fn compare<T: PartialEq + std::fmt::Debug>(
+/// Seconds that one call of each takes in its best round. Both results agree.
+fn best<T: PartialEq + std::fmt::Debug>(
     name: &str,
     calls: u32,
-    steps: u32,
     mut proved: impl FnMut() -> T,
     mut plain: impl FnMut() -> T,
-) {
+) -> (f64, f64) {
     assert_eq!(proved(), plain(), "{name}");
     let (mut best_proved, mut best_plain) = (f64::MAX, f64::MAX);
     for _ in 0..ROUNDS {
         best_proved = best_proved.min(seconds(calls, &mut proved));
         best_plain = best_plain.min(seconds(calls, &mut plain));
     }
+    (best_proved, best_plain)
+}
+
+/// One line of the table. A call does `steps` steps.
+fn compare<T: PartialEq + std::fmt::Debug>(
+    name: &str,
+    calls: u32,
+    steps: u32,
+    proved: impl FnMut() -> T,
+    plain: impl FnMut() -> T,
+) {
+    let (proved, plain) = best(name, calls, proved, plain);
     let nanoseconds = |seconds: f64| 1e9 * seconds / steps as f64;
-    println!(
-        "{name:<34} {:>12.1} {:>12.1} {:>8.2}",
-        nanoseconds(best_proved),
-        nanoseconds(best_plain),
-        best_proved / best_plain
-    );
+    println!("{name:<34} {:>12.1} {:>12.1} {:>8.2}", nanoseconds(proved), nanoseconds(plain), proved / plain);
 }
 
 fn main() {
@@ -122,6 +131,13 @@ fn main() {
     compare_call("verify, t = 64", Name::Verify, 64);
     compare_call("verify, t = 256", Name::Verify, 256);
     compare_call("decide", Name::Decide, 1);
+
+    println!(
+        "\n{:<34} {:>12} {:>12} {:>8}",
+        "A sheet of 60,000 bytes read", "proved, MB/s", "plain, MB/s", "ratio"
+    );
+    compare_sheet("3,072 entries, 64 pairs", &GREATEST);
+    compare_sheet("24 entries, 40 pairs, long numbers", &Shape { entries: [8; 3], pairs: 40, ..GREATEST });
 }
 
 const PROVED: Library = library!(verdicts);
@@ -137,4 +153,33 @@ fn compare_call(line: &str, name: Name, t: usize) {
     let proved = || black_box(&mut by_proved).run(&PROVED);
     compare(line, 1, 1, proved, || black_box(&mut by_plain).run(&PLAIN));
     assert!(by_proved == by_plain, "{line}");
+}
+
+/// The proved reader: the answer, and the sizes and counts.
+fn read_sheet(
+    sheet: &[u8],
+    a: &mut [u8],
+    b: &mut [u8],
+    c: &mut [u8],
+    items: &mut [u8],
+    wits: &mut [u8],
+) -> (u32, [u32; 7]) {
+    let mut sizes = [0; 7];
+    (verdicts::read_sheet(sheet, a, b, c, items, wits, &mut sizes), sizes)
+}
+
+/// A sheet of the greatest length that is accepted.
+fn compare_sheet(line: &str, shape: &Shape) {
+    let text = write(&of_length(&mut Random::new(1), shape, MOST_BYTES));
+    let mut by_proved = Buffers::new(Buffers::LENGTHS);
+    let mut by_plain = by_proved.clone();
+    let (proved, plain) = best(
+        line,
+        10,
+        || by_proved.read(read_sheet, black_box(&text)),
+        || by_plain.read(plain_sheet::read, black_box(&text)),
+    );
+    assert!(by_proved == by_plain, "{line}");
+    let rate = |seconds: f64| 1e-6 * text.len() as f64 / seconds;
+    println!("{line:<34} {:>12.1} {:>12.1} {:>8.2}", rate(proved), rate(plain), proved / plain);
 }

@@ -37,6 +37,8 @@ mod exported {
         ) -> u32;
 
         pub fn lomvuze_test_codeword(w: *const u32, k: usize, out: *mut u32, count: usize) -> u32;
+
+        pub fn lomvuze_test_listing(sheet: *const u8, length: usize, out: *mut u8, size: usize) -> usize;
     }
 }
 use exported::*;
@@ -121,4 +123,18 @@ pub fn leads_to(opening: &[u8], depth: usize, position: usize, out: &mut Digest)
 
 pub fn codeword(w: &[u32], out: &mut [u32]) -> u32 {
     unsafe { lomvuze_test_codeword(w.as_ptr(), w.len(), out.as_mut_ptr(), out.len()) }
+}
+
+// ---- Sheets.
+
+/// The longest listing: a line of ten bytes, and 64 lines of 33.
+const LISTING: usize = 10 + 64 * 33;
+
+/// What the program `claims` prints for a sheet.
+pub fn listing(sheet: &[u8]) -> Vec<u8> {
+    let mut out = vec![0; LISTING];
+    let length = unsafe { lomvuze_test_listing(sheet.as_ptr(), sheet.len(), out.as_mut_ptr(), out.len()) };
+    assert!(out[length..].iter().all(|byte| *byte == 0));
+    out.truncate(length);
+    out
 }

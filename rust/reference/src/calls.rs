@@ -13,7 +13,7 @@ use crate::tree;
 use std::ops::RangeInclusive;
 
 /// The number of the check that fails.
-type Refusal = u32;
+pub(crate) type Refusal = u32;
 
 /// Runs a call's checks and, if all pass, its writing.
 fn answer(call: impl FnOnce() -> Result<(), Refusal>) -> u32 {
@@ -23,7 +23,7 @@ fn answer(call: impl FnOnce() -> Result<(), Refusal>) -> u32 {
     }
 }
 
-fn check(number: u32, passes: bool) -> Result<(), Refusal> {
+pub(crate) fn check(number: u32, passes: bool) -> Result<(), Refusal> {
     if passes {
         Ok(())
     } else {
@@ -43,17 +43,17 @@ fn length(buffer: &[u8], expected: usize) -> Result<(), Refusal> {
 }
 
 /// m is 0 to 6.
-fn size_m(m: u32) -> Result<usize, Refusal> {
+pub(crate) fn size_m(m: u32) -> Result<usize, Refusal> {
     within(m, 0..=6)
 }
 
 /// n is 1 to 64.
-fn size_n(n: u32) -> Result<usize, Refusal> {
+pub(crate) fn size_n(n: u32) -> Result<usize, Refusal> {
     within(n, 1..=64)
 }
 
 /// k is a power of two from 2 to 64.
-fn size_k(k: u32) -> Result<usize, Refusal> {
+pub(crate) fn size_k(k: u32) -> Result<usize, Refusal> {
     check(2, k.is_power_of_two())?;
     within(k, 2..=64)
 }
@@ -68,7 +68,7 @@ fn size_t(t: u32, k: usize) -> Result<usize, Refusal> {
     within(t, 1..=4 * k)
 }
 
-fn item_length(m: usize, n: usize) -> usize {
+pub(crate) const fn item_length(m: usize, n: usize) -> usize {
     4 + 4 * m + 4 * n + 32
 }
 
@@ -81,9 +81,12 @@ fn opening_length(k: usize) -> usize {
     4 + 32 * (4 * k).ilog2() as usize
 }
 
-/// A list of at most 1,024 entries of twelve bytes.
+/// The greatest count of entries in a list.
+pub(crate) const MOST_ENTRIES: usize = 1024;
+
+/// A list of entries of twelve bytes each.
 fn entry_count(list: &[u8]) -> Result<(), Refusal> {
-    check(2, list.len().is_multiple_of(12) && list.len() / 12 <= 1024)
+    check(2, list.len().is_multiple_of(12) && list.len() / 12 <= MOST_ENTRIES)
 }
 
 // ---- Check 3: elements.
@@ -96,7 +99,7 @@ fn numbers(bytes: &[u8]) -> Vec<u32> {
     bytes.chunks(4).map(number).collect()
 }
 
-fn element(number: u32) -> Result<Element, Refusal> {
+pub(crate) fn element(number: u32) -> Result<Element, Refusal> {
     Element::new(number).ok_or(3)
 }
 
@@ -160,7 +163,7 @@ fn openings(bytes: &[u8], k: usize) -> Result<Vec<Opening>, Refusal> {
 // ---- Checks 4 to 6, 10 and 11.
 
 /// 4: every entry is inside rows and columns and in order.
-fn check_circuit(circuit: &Circuit, m: usize, n: usize, k: usize) -> Result<(), Refusal> {
+pub(crate) fn check_circuit(circuit: &Circuit, m: usize, n: usize, k: usize) -> Result<(), Refusal> {
     check(4, circuit.is_in_order(1 << m, n + k))
 }
 
@@ -189,11 +192,11 @@ fn check_claims(circuit: &Circuit, items: &[Item], witnesses: &[Vec<Element>]) -
 
 // ---- Writing.
 
-fn element_bytes(elements: &[Element]) -> Vec<u8> {
+pub(crate) fn element_bytes(elements: &[Element]) -> Vec<u8> {
     elements.iter().flat_map(|element| element.number().to_le_bytes()).collect()
 }
 
-fn item_bytes(item: &Item) -> Vec<u8> {
+pub(crate) fn item_bytes(item: &Item) -> Vec<u8> {
     [element_bytes(&[item.e]), element_bytes(&item.r), element_bytes(&item.x), item.root.to_vec()].concat()
 }
 

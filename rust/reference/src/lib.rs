@@ -9,6 +9,7 @@
 //! - [`polynomial`] — polynomials over the field
 //! - [`claims`] — circuits, items, their value, the quotient and the fold
 //! - [`calls`] — the seven public calls over byte buffers, with their checks in order
+//! - [`sheet`] — the reader of sheets and the listing of their claims
 
 pub mod calls;
 pub mod claims;
@@ -16,4 +17,5 @@ pub mod code;
 pub mod field;
 pub mod polynomial;
 pub mod sha256;
+pub mod sheet;
 pub mod tree;

@@ -1,16 +1,21 @@
 //! Seeded random inputs for tests: numbers, honest lists of items with their circuit and witnesses, as the
-//! bytes that the calls take, and whole calls, honest and damaged.
+//! bytes that the calls take, whole calls, honest and damaged, by which two implementations are compared, and
+//! sheets.
 
 pub mod batch;
 pub mod call;
 pub mod chain;
+pub mod comparison;
+pub mod corpus;
 pub mod damage;
 pub mod honest;
 pub mod library;
 pub mod random;
+pub mod sheet;
 
 pub use call::{Call, Name, Part, NAMES};
 pub use chain::Chain;
+pub use comparison::Comparison;
 pub use honest::Honest;
 pub use library::{Library, REFERENCE};
 pub use random::Random;

@@ -1,4 +1,4 @@
-//! Lomvuze's seven calls, proved, through their C boundary (`include/lomvuze.h`): one safe function for each.
+//! Lomvuze's calls, proved, through their C boundary (`include/lomvuze.h`): one safe function for each.
 //!
 //! Each tests its own input and answers 0, or the number of the first check that fails; a refusal writes
 //! nothing. A slice crosses the boundary as pointer and length. Rust's borrowing gives what the calls ask of
@@ -125,6 +125,22 @@ mod exported {
             item_len: usize,
             wit: *const u8,
             wit_len: usize,
+        ) -> u32;
+
+        pub fn lomvuze_read_sheet(
+            sheet: *const u8,
+            sheet_len: usize,
+            a_out: *mut u8,
+            a_out_len: usize,
+            b_out: *mut u8,
+            b_out_len: usize,
+            c_out: *mut u8,
+            c_out_len: usize,
+            items_out: *mut u8,
+            items_out_len: usize,
+            wits_out: *mut u8,
+            wits_out_len: usize,
+            sizes_out: *mut u32,
         ) -> u32;
     }
 }
@@ -329,6 +345,36 @@ pub fn decide(m: u32, n: u32, k: u32, a: &[u8], b: &[u8], c: &[u8], item: &[u8],
             item.len(),
             wit.as_ptr(),
             wit.len(),
+        )
+    }
+}
+
+/// Reads a sheet into buffers of the greatest lengths; `sizes_out` gets m, n, k, the count of entries of A, B
+/// and C, and the count of pairs. Checks 1 to 4.
+pub fn read_sheet(
+    sheet: &[u8],
+    a_out: &mut [u8],
+    b_out: &mut [u8],
+    c_out: &mut [u8],
+    items_out: &mut [u8],
+    wits_out: &mut [u8],
+    sizes_out: &mut [u32; 7],
+) -> u32 {
+    unsafe {
+        lomvuze_read_sheet(
+            sheet.as_ptr(),
+            sheet.len(),
+            a_out.as_mut_ptr(),
+            a_out.len(),
+            b_out.as_mut_ptr(),
+            b_out.len(),
+            c_out.as_mut_ptr(),
+            c_out.len(),
+            items_out.as_mut_ptr(),
+            items_out.len(),
+            wits_out.as_mut_ptr(),
+            wits_out.len(),
+            sizes_out.as_mut_ptr(),
         )
     }
 }

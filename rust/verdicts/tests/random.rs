@@ -4,9 +4,8 @@
 //! `cargo test --release --offline -p lomvuze-verdicts --test random -- --nocapture` prints how many calls had
 //! which answer.
 
-use lomvuze_samples::{library, Call, Honest, Library, Name, Random, NAMES, REFERENCE};
+use lomvuze_samples::{library, Call, Comparison, Honest, Library, Name, Random, NAMES, REFERENCE};
 use lomvuze_verdicts as calls;
-use std::collections::BTreeMap;
 
 const PROVED: Library = library!(calls);
 
@@ -17,66 +16,12 @@ const _: () = assert!(CALLS * NAMES.len() >= 100_000);
 /// Calls of each name that give each of its answers, at least.
 const EACH_ANSWER: usize = 500;
 
-/// How many calls had which answer.
-type Answers = BTreeMap<u32, usize>;
-
-/// Runs a call by both and compares.
-fn compare(call: &Call, answers: &mut Answers) -> u32 {
-    let (mut by_reference, mut by_proved) = (call.clone(), call.clone());
-    let answer = by_reference.run(&REFERENCE);
-    assert_eq!(by_proved.run(&PROVED), answer, "{call:?}");
-    assert!(by_proved == by_reference, "other bytes after answer {answer}: {call:?}");
-    assert!(answer == 0 || by_proved == *call, "a refusal wrote: {call:?}");
-    *answers.entry(answer).or_default() += 1;
-    answer
-}
-
-/// The call itself; with each check failing first, alone and together with some of the later ones.
-fn compare_checks(random: &mut Random, call: &Call, answers: &mut Answers) {
-    assert_eq!(compare(call, answers), 0);
-    let checks = call.name.checks();
-    for (i, check) in checks.iter().enumerate() {
-        for with_later in [false, true] {
-            let mut call = call.clone();
-            for later in checks[i + 1..].iter().rev() {
-                if with_later && random.below(2) == 0 {
-                    call.fail(random, *later);
-                }
-            }
-            call.fail(random, *check);
-            assert_eq!(compare(&call, answers), *check, "{call:?}");
-        }
-    }
-}
-
-/// The call with one to three random changes, as often as it has checks.
-fn compare_damage(random: &mut Random, call: &Call, answers: &mut Answers) {
-    for _ in call.name.checks() {
-        let mut call = call.clone();
-        for _ in 0..1 + random.below(3) {
-            call.damage(random);
-        }
-        compare(&call, answers);
-    }
-}
-
-/// Every answer of the call was given often, and no other one.
-fn finish(name: Name, answers: &Answers, each: usize) {
-    println!("{name:?}: {} calls, by answer {answers:?}", answers.values().sum::<usize>());
-    let given: Vec<u32> = answers.keys().copied().collect();
-    assert_eq!(given, [&[0], name.checks()].concat());
-    assert!(answers.values().all(|count| *count >= each), "{name:?}: {answers:?}");
+fn comparison() -> Comparison {
+    Comparison::new(&PROVED, &REFERENCE)
 }
 
 fn random_calls(name: Name) {
-    let mut random = Random::new(name as u64);
-    let mut answers = Answers::new();
-    while answers.values().sum::<usize>() < CALLS {
-        let call = Call::honest(&mut random, name);
-        compare_checks(&mut random, &call, &mut answers);
-        compare_damage(&mut random, &call, &mut answers);
-    }
-    finish(name, &answers, EACH_ANSWER);
+    comparison().random_calls(name, CALLS, EACH_ANSWER);
 }
 
 #[test]
@@ -119,13 +64,13 @@ fn decide() {
 fn greatest_sizes() {
     let mut random = Random::new(10);
     for name in NAMES {
-        let mut answers = Answers::new();
+        let mut comparison = comparison();
         for t in [64, 256] {
             let list = Honest::greatest(&mut random);
             let call = Call::over(&mut random, name, list, t);
-            compare_checks(&mut random, &call, &mut answers);
+            comparison.compare_checks(&mut random, &call);
         }
-        finish(name, &answers, 2);
+        comparison.finish(name, 2);
     }
 }
 
@@ -141,7 +86,7 @@ fn greatest_elements() {
                     lomvuze_samples::put(&mut call.inputs[i], at, 2013265920);
                 }
             }
-            assert_ne!(compare(&call, &mut Answers::new()), 3);
+            assert_ne!(comparison().compare(&call), 3);
         }
     }
 }

@@ -4,6 +4,8 @@
 //! A thread runs the call on a stack of our own that is painted before: the deepest word that has changed says
 //! how far the call came. Counted from the frame that makes the call, so passing the arguments is included.
 
+use lomvuze_reference::sheet::{write, MOST_BYTES};
+use lomvuze_samples::sheet::{of_length, Buffers, GREATEST};
 use lomvuze_samples::{library, Call, Honest, Library, Name, Random, NAMES};
 use lomvuze_verdicts as calls;
 use std::ffi::c_void;
@@ -42,8 +44,8 @@ const STACK_BYTES: usize = 1 << 20;
 #[repr(C, align(4096))]
 struct Page([u64; 512]);
 
-struct Run {
-    call: Call,
+struct Run<'a> {
+    work: &'a mut dyn FnMut() -> u32,
     answer: u32,
     /// Where the frame stands that makes the call.
     frame: usize,
@@ -53,14 +55,14 @@ extern "C" fn run(argument: *mut c_void) -> *mut c_void {
     let run = unsafe { &mut *argument.cast::<Run>() };
     let local = 0u64;
     run.frame = black_box(&local) as *const u64 as usize;
-    run.answer = run.call.run(&PROVED);
+    run.answer = (run.work)();
     null_mut()
 }
 
 /// The bytes of stack that a call takes, and its answer.
-fn depth(call: Call) -> (usize, u32) {
+fn depth(work: &mut dyn FnMut() -> u32) -> (usize, u32) {
     let mut stack = vec![Page([PAINT; 512]); STACK_BYTES / size_of::<Page>()];
-    let mut run_of = Run { call, answer: u32::MAX, frame: 0 };
+    let mut run_of = Run { work, answer: u32::MAX, frame: 0 };
     let (mut attributes, mut thread) = (Attributes([0; 64]), 0);
     unsafe {
         let lowest = stack.as_mut_ptr().cast();
@@ -76,20 +78,26 @@ fn depth(call: Call) -> (usize, u32) {
 // ---- What the header states
 
 /// From the line of the call in the header's list of stacks: its name, then the bytes.
-fn stated(name: Name) -> usize {
+fn stated(name: &str) -> usize {
     let header = include_str!("../../../include/lomvuze.h");
-    let call = format!("lomvuze_{}", format!("{name:?}").to_lowercase());
+    let call = format!("lomvuze_{name}");
     let list = header.split("deepest stack of each call").nth(1).unwrap();
     let line = list.lines().find(|line| line.contains(&call)).unwrap();
     line.split_whitespace().last().unwrap().replace(',', "").parse().unwrap()
 }
 
-fn test(name: Name, call: Call) -> usize {
-    let (bytes, answer) = depth(call);
-    assert_eq!(answer, 0, "{name:?}");
-    assert!(bytes <= stated(name), "{name:?} takes {bytes} bytes of stack");
-    assert!(stated(name) <= MOST, "{name:?}");
+/// Runs a call that is accepted.
+fn measure(name: &str, work: &mut dyn FnMut() -> u32) -> usize {
+    let (bytes, answer) = depth(work);
+    assert_eq!(answer, 0, "{name}");
+    assert!(bytes <= stated(name), "{name} takes {bytes} bytes of stack");
     bytes
+}
+
+fn test(name: Name, mut call: Call) -> usize {
+    let named = format!("{name:?}").to_lowercase();
+    assert!(stated(&named) <= MOST, "{named}");
+    measure(&named, &mut || call.run(&PROVED))
 }
 
 #[test]
@@ -111,4 +119,16 @@ fn at_other_sizes() {
             test(name, Call::honest(&mut random, name));
         }
     }
+}
+
+#[test]
+#[cfg_attr(debug_assertions, ignore = "a caller that is not optimised takes more stack itself")]
+fn of_the_sheet_reader() {
+    let text = write(&of_length(&mut Random::new(3), &GREATEST, MOST_BYTES));
+    let [mut a, mut b, mut c, mut items, mut wits] = Buffers::LENGTHS.map(|length| vec![0; length]);
+    let mut sizes = [0; 7];
+    let work = &mut || {
+        lomvuze_verdicts::read_sheet(&text, &mut a, &mut b, &mut c, &mut items, &mut wits, &mut sizes)
+    };
+    println!("read_sheet {}", measure("read_sheet", work));
 }

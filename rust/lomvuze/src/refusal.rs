@@ -1,0 +1,104 @@
+//! The checks, as errors.
+
+use std::error::Error;
+use std::fmt;
+
+/// The first check of a call that fails.
+///
+/// ```
+/// use lomvuze::{encode, Refusal, P};
+///
+/// assert!(encode(2, &[2, P - 1]).is_ok());
+///
+/// let refusal = encode(2, &[2, P]).unwrap_err();
+/// assert_eq!(refusal, Refusal::Element);
+/// assert_eq!(refusal.number(), 3);
+/// assert_eq!(refusal.to_string(), "an element is p or more");
+/// ```
+#[derive(Clone, Copy, PartialEq, Eq, Debug)]
+pub enum Refusal {
+    /// A sheet has over 60,000 bytes or breaks the line rules.
+    Sheet = 1,
+
+    /// A size, item count, position count, entry count or `end` count is not permitted, or a buffer does not
+    /// have exactly the length that the sizes give.
+    Sizes = 2,
+
+    /// An element, coefficient, entry's value or opened value is p or more.
+    Element = 3,
+
+    /// A circuit entry is outside rows or columns, or out of order.
+    Circuit = 4,
+
+    /// The challenge is below l, or not below p.
+    Challenge = 5,
+
+    /// A position is 4k or more.
+    Position = 6,
+
+    /// The new item's e, r or x is not the one that items, quotient and challenge give.
+    NewItem = 7,
+
+    /// An opening does not lead to its item's root.
+    Opening = 8,
+
+    /// A new opened value is not the combination of the items' opened values.
+    Combination = 9,
+
+    /// An item's root is not that of its witness's codeword.
+    Root = 10,
+
+    /// An item does not hold with its witness.
+    Claim = 11,
+}
+
+impl Refusal {
+    /// All checks, in order.
+    pub const ALL: [Refusal; 11] = [
+        Refusal::Sheet,
+        Refusal::Sizes,
+        Refusal::Element,
+        Refusal::Circuit,
+        Refusal::Challenge,
+        Refusal::Position,
+        Refusal::NewItem,
+        Refusal::Opening,
+        Refusal::Combination,
+        Refusal::Root,
+        Refusal::Claim,
+    ];
+
+    /// The number of the check, 1 to 11: what the call returns in C (`enum lomvuze_answer`).
+    pub fn number(self) -> u32 {
+        self as u32
+    }
+}
+
+impl fmt::Display for Refusal {
+    fn fmt(&self, out: &mut fmt::Formatter) -> fmt::Result {
+        out.write_str(match self {
+            Refusal::Sheet => "the sheet is over 60,000 bytes or breaks the line rules",
+            Refusal::Sizes => "a size, count or length is not permitted",
+            Refusal::Element => "an element is p or more",
+            Refusal::Circuit => "a circuit entry is outside or out of order",
+            Refusal::Challenge => "the challenge is not permitted",
+            Refusal::Position => "a position is outside the codeword",
+            Refusal::NewItem => "the new item is not the one of the challenge",
+            Refusal::Opening => "an opening does not lead to its root",
+            Refusal::Combination => "a new opened value is no combination",
+            Refusal::Root => "a root is not that of its witness",
+            Refusal::Claim => "an item does not hold",
+        })
+    }
+}
+
+impl Error for Refusal {}
+
+/// What the answer of a call says. The library answers 0 or the number of a check.
+pub(crate) fn accepted(answer: u32) -> Result<(), Refusal> {
+    if answer == 0 {
+        return Ok(());
+    }
+    let refusal = Refusal::ALL.into_iter().find(|refusal| refusal.number() == answer);
+    Err(refusal.unwrap_or_else(|| unreachable!("the library answered {answer}")))
+}

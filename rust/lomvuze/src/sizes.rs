@@ -1,0 +1,107 @@
+//! Sizes, their limits, and the lengths that they give.
+
+/// The count of elements: an element is a number below p.
+pub const P: u32 = 2013265921;
+/// The greatest m.
+pub const MAX_M: u32 = 6;
+/// The greatest n.
+pub const MAX_N: u32 = 64;
+/// The greatest k.
+pub const MAX_K: u32 = 64;
+/// The greatest l, the count of items of a fold.
+pub const MAX_L: usize = 8;
+/// The greatest count of entries in each list of a circuit.
+pub const MAX_ENTRIES: usize = 1024;
+/// The greatest count of pairs of item and witness in a sheet.
+pub const MAX_PAIRS: usize = 64;
+/// The greatest length of a sheet, in bytes. To have a longer one refused, one byte more is enough.
+pub const MAX_SHEET: usize = 60_000;
+
+/// The length of an entry.
+pub(crate) const ENTRY_BYTES: usize = 12;
+
+/// The most numbers that a list of numbers may have: positions, for the greatest k.
+pub(crate) const MOST_NUMBERS: usize = 4 * MAX_K as usize;
+
+/// The sizes of a circuit and its claims. The methods give the lengths in bytes of what
+/// [`Item::to_bytes`](crate::Item::to_bytes) and its like write; the calls need none of them from their
+/// caller.
+///
+/// Which sizes are permitted is for the calls to say. For others the lengths follow the same rules, up to
+/// [`usize::MAX`].
+///
+/// ```
+/// use lomvuze::Sizes;
+///
+/// let sizes = Sizes { m: 2, n: 4, k: 8 };
+/// assert_eq!((sizes.depth(), sizes.item_bytes(), sizes.quotient_bytes(8)), (5, 60, 84));
+/// ```
+#[derive(Clone, Copy, PartialEq, Eq, Debug)]
+pub struct Sizes {
+    /// A circuit has 2^m rows, and an item has m elements r.
+    pub m: u32,
+    /// Public inputs of a claim.
+    pub n: u32,
+    /// Numbers of a witness. Its codeword has 4k.
+    pub k: u32,
+}
+
+impl Sizes {
+    /// The greatest that are permitted.
+    pub(crate) const GREATEST: Sizes = Sizes { m: MAX_M, n: MAX_N, k: MAX_K };
+
+    /// Whether no size is above its greatest.
+    pub(crate) fn are_within_limits(self) -> bool {
+        self.m <= MAX_M && self.n <= MAX_N && self.k <= MAX_K
+    }
+
+    /// The levels of the tree over a codeword, log2(4k): the digests of an opening's path.
+    pub fn depth(self) -> usize {
+        self.k.checked_ilog2().map_or(0, |log| log as usize + 2)
+    }
+
+    /// A witness.
+    pub fn witness_bytes(self) -> usize {
+        4 * self.k as usize
+    }
+
+    /// l witnesses.
+    pub fn witnesses_bytes(self, l: usize) -> usize {
+        l.saturating_mul(self.witness_bytes())
+    }
+
+    /// A codeword.
+    pub fn codeword_bytes(self) -> usize {
+        16 * self.k as usize
+    }
+
+    /// An item.
+    pub fn item_bytes(self) -> usize {
+        4 + 4 * self.m as usize + 4 * self.n as usize + 32
+    }
+
+    /// l items.
+    pub fn items_bytes(self, l: usize) -> usize {
+        l.saturating_mul(self.item_bytes())
+    }
+
+    /// The quotient of l items.
+    pub fn quotient_bytes(self, l: usize) -> usize {
+        l.saturating_sub(1).saturating_mul(4 * (self.m as usize + 1))
+    }
+
+    /// An opening.
+    pub fn opening_bytes(self) -> usize {
+        4 + 32 * self.depth()
+    }
+
+    /// The openings of one witness at t positions.
+    pub fn openings_bytes(self, t: usize) -> usize {
+        t.saturating_mul(self.opening_bytes())
+    }
+
+    /// The openings of l items and the new item at t positions.
+    pub fn all_openings_bytes(self, l: usize, t: usize) -> usize {
+        l.saturating_add(1).saturating_mul(self.openings_bytes(t))
+    }
+}

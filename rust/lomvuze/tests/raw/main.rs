@@ -1,0 +1,110 @@
+//! The crate's calls beside the library's own, on random calls and sheets, honest and damaged, and at the edges
+//! of the checks: the same answers, and the same bytes.
+//!
+//! `cargo test --release --offline -p lomvuze --test raw -- --nocapture` prints how many calls and sheets had
+//! which answer.
+
+use lomvuze::{Sizes, MAX_SHEET};
+use lomvuze_reference::sheet::{write, Reading};
+use lomvuze_samples::sheet::damage::{damaged, failing, junk};
+use lomvuze_samples::sheet::{accepted, of_length, Buffers, Shape, GREATEST};
+use lomvuze_samples::{library, Call, Chain, Comparison, Honest, Library, Random, NAMES};
+use lomvuze_verdicts as verdicts;
+
+mod calls;
+mod sheet;
+
+#[path = "../../../samples/edges.rs"]
+mod edges;
+
+#[path = "../../../samples/sheet_edges.rs"]
+mod sheet_edges;
+
+const CRATE: Library = library!(calls);
+const LIBRARY: Library = library!(verdicts);
+
+fn comparison() -> Comparison {
+    Comparison::new(&CRATE, &LIBRARY)
+}
+
+/// 3,000 calls of each name, of which 50 at least give each answer.
+#[test]
+fn random_calls() {
+    for name in NAMES {
+        comparison().random_calls(name, 3000, 50);
+    }
+}
+
+/// The greatest sizes, 1,024 entries in each list, and the greatest count of positions.
+#[test]
+fn greatest_sizes() {
+    let mut random = Random::new(1);
+    for name in NAMES {
+        let mut comparison = comparison();
+        let list = Honest::greatest(&mut random);
+        let call = Call::over(&mut random, name, list, 256);
+        comparison.compare_checks(&mut random, &call);
+        comparison.finish(name, 1);
+    }
+}
+
+/// The lengths that sizes give are those of the library's buffers.
+#[test]
+fn lengths() {
+    let mut random = Random::new(2);
+    for _ in 0..100 {
+        let list = Honest::of_any_size(&mut random);
+        let chain = Chain::new(&LIBRARY, &list, list.l, &[0, 1, 2]);
+        let (sizes, l) = (Sizes { m: list.m, n: list.n, k: list.k }, list.l as usize);
+        assert_eq!(sizes.items_bytes(l), list.items.len());
+        assert_eq!(sizes.item_bytes(), chain.new_item.len());
+        assert_eq!(sizes.witnesses_bytes(l), list.witnesses.len());
+        assert_eq!(sizes.witness_bytes(), chain.new_witness.len());
+        assert_eq!(sizes.quotient_bytes(l), chain.quotient.len());
+        assert_eq!(sizes.all_openings_bytes(l, 3), chain.openings.len());
+    }
+}
+
+// ---- Sheets
+
+/// Reads a sheet by both, and compares.
+fn compare_sheet(text: &[u8]) -> u32 {
+    let mut by_crate = Buffers::new(Buffers::LENGTHS);
+    let mut by_library = by_crate.clone();
+    let Reading { answer, m, n, k, a, b, c, pairs } = by_crate.read(sheet::read, text);
+    let (mut sizes, [a_out, b_out, c_out, items, wits]) = ([0; 7], &mut by_library.0);
+    let by_library_answer = verdicts::read_sheet(text, a_out, b_out, c_out, items, wits, &mut sizes);
+    assert_eq!(answer, by_library_answer, "{}", text.escape_ascii());
+    assert_eq!([m, n, k, a, b, c, pairs], sizes, "{}", text.escape_ascii());
+    assert!(by_crate == by_library, "other bytes: {}", text.escape_ascii());
+    answer
+}
+
+/// Sheets that are accepted, that fail a check, with random changes, and texts that are no sheets: 500 at least
+/// give each answer.
+#[test]
+fn random_sheets() {
+    let mut random = Random::new(3);
+    let mut answers = [0; 5];
+    for i in 0..1000 {
+        let shape = if i % 50 == 0 { Shape::any(&mut random) } else { Shape::small(&mut random) };
+        let says = accepted(&mut random, &shape);
+        let mut texts = vec![write(&says), junk(&mut random)];
+        texts.extend((1..=4).map(|check| failing(&mut random, &says, &[check])));
+        texts.extend((0..4).map(|_| damaged(&mut random, &says)));
+        for text in texts {
+            answers[compare_sheet(&text) as usize] += 1;
+        }
+    }
+    println!("{} sheets, by answer {answers:?}", answers.iter().sum::<usize>());
+    assert!(answers.iter().all(|count| *count >= 500), "{answers:?}");
+}
+
+/// All lists and all pairs full, and a text of the greatest length.
+#[test]
+fn greatest_sheets() {
+    let mut random = Random::new(4);
+    for (length, answer) in [(MAX_SHEET, 0), (MAX_SHEET + 1, 1)] {
+        assert_eq!(compare_sheet(&write(&of_length(&mut random, &GREATEST, length))), answer);
+    }
+}

@@ -1,0 +1,79 @@
+//! Random calls by two implementations: the same answer, the same bytes in every buffer after it, and nothing
+//! written by a refusal.
+
+use crate::{Call, Library, Name, Random};
+use std::collections::BTreeMap;
+
+/// Runs calls by a library that is tested and by another one.
+pub struct Comparison {
+    tested: &'static Library,
+    other: &'static Library,
+    /// How many calls had which answer.
+    answers: BTreeMap<u32, usize>,
+}
+
+impl Comparison {
+    pub fn new(tested: &'static Library, other: &'static Library) -> Comparison {
+        Comparison { tested, other, answers: BTreeMap::new() }
+    }
+
+    /// Runs a call by both and compares.
+    pub fn compare(&mut self, call: &Call) -> u32 {
+        let (mut by_other, mut by_tested) = (call.clone(), call.clone());
+        let answer = by_other.run(self.other);
+        assert_eq!(by_tested.run(self.tested), answer, "{call:?}");
+        assert!(by_tested == by_other, "other bytes after answer {answer}: {call:?}");
+        assert!(answer == 0 || by_tested == *call, "a refusal wrote: {call:?}");
+        *self.answers.entry(answer).or_default() += 1;
+        answer
+    }
+
+    /// The call itself; with each check failing first, alone and together with some of the later ones.
+    pub fn compare_checks(&mut self, random: &mut Random, call: &Call) {
+        assert_eq!(self.compare(call), 0);
+        let checks = call.name.checks();
+        for (i, check) in checks.iter().enumerate() {
+            for with_later in [false, true] {
+                let mut call = call.clone();
+                for later in checks[i + 1..].iter().rev() {
+                    if with_later && random.below(2) == 0 {
+                        call.fail(random, *later);
+                    }
+                }
+                call.fail(random, *check);
+                assert_eq!(self.compare(&call), *check, "{call:?}");
+            }
+        }
+    }
+
+    /// The call with one to three random changes, as often as it has checks.
+    pub fn compare_damage(&mut self, random: &mut Random, call: &Call) {
+        for _ in call.name.checks() {
+            let mut call = call.clone();
+            for _ in 0..1 + random.below(3) {
+                call.damage(random);
+            }
+            self.compare(&call);
+        }
+    }
+
+    /// At least `count` calls of a name, honest and damaged, of which `each` or more give each answer.
+    pub fn random_calls(mut self, name: Name, count: usize, each: usize) {
+        let mut random = Random::new(name as u64);
+        while self.answers.values().sum::<usize>() < count {
+            let call = Call::honest(&mut random, name);
+            self.compare_checks(&mut random, &call);
+            self.compare_damage(&mut random, &call);
+        }
+        self.finish(name, each);
+    }
+
+    /// Every answer of the call was given often, and no other one.
+    pub fn finish(&self, name: Name, each: usize) {
+        let answers = &self.answers;
+        println!("{name:?}: {} calls, by answer {answers:?}", answers.values().sum::<usize>());
+        let given: Vec<u32> = answers.keys().copied().collect();
+        assert_eq!(given, [&[0], name.checks()].concat());
+        assert!(answers.values().all(|count| *count >= each), "{name:?}: {answers:?}");
+    }
+}

@@ -1,0 +1,139 @@
+//! The seeds of the fuzz targets: calls and sheets, honest and damaged, in the format that `fuzz/target.h`
+//! describes.
+
+use crate::sheet::{accepted, of_length, Buffers, Shape, GREATEST};
+use crate::{bytes, put, Call, Honest, Name, Random, NAMES, REFERENCE};
+use lomvuze_reference::field::Element;
+use lomvuze_reference::{code, sheet};
+use std::path::{Path, PathBuf};
+
+/// Writes each file to its folder, which is made where it is missing.
+pub fn write(folder: &Path, files: Vec<(PathBuf, Vec<u8>)>) -> std::io::Result<()> {
+    for (name, content) in files {
+        let path = folder.join(name);
+        std::fs::create_dir_all(path.parent().unwrap())?;
+        std::fs::write(path, content)?;
+    }
+    Ok(())
+}
+
+/// The files of `fuzz/corpus`. A name starts with the answer: each call has one file at least for each of its
+/// answers.
+pub fn stored() -> Vec<(PathBuf, Vec<u8>)> {
+    let mut random = Random::new(1);
+    let mut files = vec![];
+    for name in NAMES {
+        let mut add = |what: &str, content| files.push((folder(name).join(what), content));
+        let greatest = Honest::with_entries(&mut random, 6, 64, 64, 8, [16, 16, 80]);
+        add("0-greatest", input(&Call::over(&mut random, name, greatest, 2)));
+
+        let small = Honest::with_entries(&mut random, 1, 2, 4, 2, [3, 3, 3]);
+        let call = Call::over(&mut random, name, small, 2);
+        add("0-small", input(&call));
+        for check in name.checks().iter().filter(|check| **check != 2) {
+            let mut call = call.clone();
+            call.fail(&mut random, *check);
+            assert_eq!(call.clone().run(&REFERENCE), *check);
+            add(&check.to_string(), input(&call));
+        }
+
+        let mut longer = call.clone();
+        longer.inputs[0].push(0);
+        add("2-longer", input(&longer));
+        let mut shorter = call.clone();
+        shorter.inputs.iter_mut().chain(&mut shorter.outputs).last().unwrap().pop();
+        add("2-shorter", input(&shorter));
+        // A size of 2^30 more gives the same lengths modulo 2^32.
+        for (i, size) in name.numbers().char_indices().filter(|(_, letter)| *letter != 'a') {
+            let mut content = input(&call);
+            put(&mut content, 4 * i, call.numbers[i] + (1 << 30));
+            add(&format!("2-{size}"), content);
+        }
+    }
+
+    let mut add = |what: &str, more: [isize; 5], text: &[u8]| {
+        let lengths = std::array::from_fn(|i| Buffers::LENGTHS[i].wrapping_add_signed(more[i]));
+        let answer = Buffers::new(lengths).read(sheet::read, text).answer;
+        assert!(what.starts_with(&answer.to_string()));
+        files.push((PathBuf::from(SHEETS).join(what), sheet_input(more, text)));
+    };
+    let greatest = Shape { entries: [16, 32, 80], pairs: 2, ..GREATEST };
+    add("0-greatest", [0; 5], &matching(&mut random, &greatest));
+    let small = matching(&mut random, &Shape { m: 1, n: 2, k: 4, entries: [2, 3, 4], pairs: 2 });
+    add("0-small", [0; 5], &small);
+    add("0-without-last-newline", [0; 5], small.strip_suffix(b"\n").unwrap());
+    for (what, text) in EXAMPLES {
+        add(what, [0; 5], text);
+    }
+    add("1-longer", [1, 0, 0, 0, 0], &small[1..]);
+    add("2-longer", [1, 0, 0, 0, 0], &small);
+    add("2-shorter", [0, 0, 0, 0, -1], &small);
+    files
+}
+
+/// The sheets of `examples/sheets`.
+const EXAMPLES: [(&str, &[u8]); 6] = [
+    ("0-printed", include_bytes!("../../../examples/sheets/printed.sheet")),
+    ("0-case-8", include_bytes!("../../../examples/sheets/case-8.sheet")),
+    ("1", include_bytes!("../../../examples/sheets/refused-1.sheet")),
+    ("2", include_bytes!("../../../examples/sheets/refused-2.sheet")),
+    ("3", include_bytes!("../../../examples/sheets/refused-3.sheet")),
+    ("4", include_bytes!("../../../examples/sheets/refused-4.sheet")),
+];
+
+/// So many honest calls of each name, of any size, and one of the greatest; and as many sheets.
+pub fn honest(count: usize) -> Vec<(PathBuf, Vec<u8>)> {
+    let mut random = Random::new(2);
+    let mut files = vec![];
+    for name in NAMES {
+        let greatest = Honest::greatest(&mut random);
+        files.push((folder(name).join("greatest"), input(&Call::over(&mut random, name, greatest, 256))));
+        for i in 0..count {
+            let list = Honest::of_any_size(&mut random);
+            let t = 1 + random.below(4 * list.k as usize);
+            files.push((folder(name).join(i.to_string()), input(&Call::over(&mut random, name, list, t))));
+        }
+    }
+    let mut add = |what: &str, text: &[u8]| {
+        files.push((PathBuf::from(SHEETS).join(what), sheet_input([0; 5], text)));
+    };
+    add("greatest", &sheet::write(&of_length(&mut random, &GREATEST, sheet::MOST_BYTES)));
+    for i in 0..count {
+        let shape = Shape::any(&mut random);
+        add(&i.to_string(), &matching(&mut random, &shape));
+    }
+    files
+}
+
+fn folder(name: Name) -> PathBuf {
+    format!("{name:?}").to_lowercase().into()
+}
+
+const SHEETS: &str = "read_sheet";
+
+/// A sheet of this shape whose roots are those of its witnesses. About half of its items hold.
+fn matching(random: &mut Random, shape: &Shape) -> Vec<u8> {
+    let mut sheet = accepted(random, shape);
+    for pair in &mut sheet.pairs {
+        let w: Vec<Element> = pair.witness.iter().map(|number| Element::new(*number).unwrap()).collect();
+        pair.root = code::root(&w);
+    }
+    sheet::write(&sheet)
+}
+
+/// A sheet as an input: what is added to the lengths of the buffers, and the text.
+fn sheet_input(more: [isize; 5], text: &[u8]) -> Vec<u8> {
+    [&bytes(&more.map(|more| more as u32)), text].concat()
+}
+
+/// A call with permitted sizes as an input: its numbers, the lengths of its buffers beside those that the sizes
+/// give, and the contents of those that it reads.
+fn input(call: &Call) -> Vec<u8> {
+    let parts = call.name.inputs().iter().chain(call.name.outputs());
+    let buffers = call.inputs.iter().chain(&call.outputs);
+    let more: Vec<u32> = parts
+        .zip(buffers)
+        .map(|(part, buffer)| (buffer.len() as u32).wrapping_sub(call.length(*part).unwrap_or(0) as u32))
+        .collect();
+    [bytes(&call.numbers), bytes(&more), call.inputs.concat()].concat()
+}

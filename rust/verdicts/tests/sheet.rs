@@ -1,0 +1,130 @@
+//! Sheets by the proved reader and by the reference: the same answer, sizes and counts, the same bytes in
+//! every buffer after it, and the same listing. And the edges of the checks, by the proved reader.
+//!
+//! `cargo test --release --offline -p lomvuze-verdicts --test sheet -- --nocapture` prints how many sheets had
+//! which answer.
+
+use lomvuze_reference::sheet::{listing, read, write, MOST_BYTES};
+use lomvuze_samples::sheet::damage::{damaged, failing, junk};
+use lomvuze_samples::sheet::{accepted, of_length, Buffers, Shape, GREATEST};
+use lomvuze_samples::Random;
+
+/// The proved reader, named as the reference is.
+mod sheet {
+    use lomvuze_reference::sheet::Reading;
+
+    pub use lomvuze_proved::listing;
+
+    pub fn read(
+        sheet: &[u8],
+        a: &mut [u8],
+        b: &mut [u8],
+        c: &mut [u8],
+        items: &mut [u8],
+        wits: &mut [u8],
+    ) -> Reading {
+        let held = [0xAAAA_AAAA; 7];
+        let mut sizes = held;
+        let answer = lomvuze_verdicts::read_sheet(sheet, a, b, c, items, wits, &mut sizes);
+        if answer != 0 {
+            assert_eq!(sizes, held, "a refusal wrote sizes");
+            sizes = [0; 7];
+        }
+        let [m, n, k, a, b, c, pairs] = sizes;
+        Reading { answer, m, n, k, a, b, c, pairs }
+    }
+}
+
+#[path = "../../samples/sheet_edges.rs"]
+mod edges;
+
+/// Sheets that are tried, at least.
+const SHEETS: usize = 120_000;
+
+/// Sheets that give each answer, at least.
+const EACH_ANSWER: usize = 1_000;
+
+/// How many sheets had which answer.
+type Answers = [usize; 5];
+
+/// Reads a sheet by both, into buffers of these lengths, and compares.
+fn compare_into(lengths: [usize; 5], text: &[u8], answers: &mut Answers) -> u32 {
+    let mut by_reference = Buffers::new(lengths);
+    let mut by_proved = by_reference.clone();
+    let reading = by_reference.read(read, text);
+    assert_eq!(by_proved.read(sheet::read, text), reading, "{}", text.escape_ascii());
+    assert!(by_proved == by_reference, "other bytes: {}", text.escape_ascii());
+    answers[reading.answer as usize] += 1;
+    reading.answer
+}
+
+/// Reads and lists a sheet by both, and compares.
+fn compare(text: &[u8], answers: &mut Answers) -> u32 {
+    assert_eq!(
+        sheet::listing(text).escape_ascii().to_string(),
+        listing(text).escape_ascii().to_string(),
+        "{}",
+        text.escape_ascii()
+    );
+    compare_into(Buffers::LENGTHS, text, answers)
+}
+
+/// An accepted sheet; with each check failing first, alone and together with some of the later ones; with a
+/// buffer of another length; with random changes; and a text that is no sheet.
+fn compare_around(random: &mut Random, shape: &Shape, answers: &mut Answers) {
+    let says = accepted(random, shape);
+    let text = write(&says);
+    assert_eq!(compare(&text, answers), 0);
+    for check in 1..=4 {
+        let later: Vec<u32> = (check + 1..=4).filter(|_| random.below(2) == 0).collect();
+        for checks in [vec![check], [vec![check], later].concat()] {
+            let text = failing(random, &says, &checks);
+            let expected = if text.len() > MOST_BYTES { 1 } else { check };
+            assert_eq!(compare(&text, answers), expected, "{checks:?}: {}", text.escape_ascii());
+        }
+    }
+
+    let mut lengths = Buffers::LENGTHS;
+    let length = &mut lengths[random.below(5)];
+    *length = [0, *length - 1, *length + 1, *length + 12, random.below(*length)][random.below(5)];
+    assert_eq!(compare_into(lengths, &text, answers), 2);
+    compare_into(lengths, &damaged(random, &says), answers);
+
+    for _ in 0..6 {
+        compare(&damaged(random, &says), answers);
+    }
+    compare(&junk(random), answers);
+}
+
+/// Every answer was given often.
+fn finish(answers: &Answers, each: usize) {
+    println!("{} sheets, by answer {answers:?}", answers.iter().sum::<usize>());
+    assert!(answers.iter().all(|count| *count >= each), "{answers:?}");
+}
+
+#[test]
+fn random_sheets() {
+    let mut random = Random::new(1);
+    let mut answers = Answers::default();
+    while answers.iter().sum::<usize>() < SHEETS {
+        let shape = if random.below(150) == 0 { Shape::any(&mut random) } else { Shape::small(&mut random) };
+        compare_around(&mut random, &shape, &mut answers);
+    }
+    finish(&answers, EACH_ANSWER);
+}
+
+/// All lists and all pairs full, and sheets of the greatest length.
+#[test]
+fn greatest_sheets() {
+    let mut random = Random::new(2);
+    let mut answers = Answers::default();
+    for _ in 0..3 {
+        compare_around(&mut random, &GREATEST, &mut answers);
+    }
+    for length in [MOST_BYTES - 1, MOST_BYTES, MOST_BYTES + 1] {
+        let text = write(&of_length(&mut random, &GREATEST, length));
+        assert_eq!(compare(&text, &mut answers), if length > MOST_BYTES { 1 } else { 0 });
+        assert_eq!(compare(text.strip_suffix(b"\n").unwrap(), &mut answers), 0);
+    }
+    finish(&answers, 5);
+}
