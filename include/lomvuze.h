@@ -1,7 +1,7 @@
 /*
  * Lomvuze: fold up to 8 R1CS claims into one, verify the fold, decide the claim that is left.
  *
- * Link with libverdicts.a (x86-64). C11 and C++.
+ * Link with liblomvuze.a, which is libverdicts.a where it is not installed (x86-64). C11 and C++.
  *
  * SIZES
  *
@@ -62,8 +62,9 @@
  *                     or witness
  *   lomvuze_decide    tests one item, such as the last new one, with its circuit and witness
  *
- *   lomvuze_encode    codeword and root of a witness
- *   lomvuze_quotient  the quotient alone
+ *   lomvuze_encode      codeword and root of a witness
+ *   lomvuze_quotient    the quotient alone
+ *   lomvuze_read_sheet  sizes, circuit, items and witnesses from a sheet of text
  *
  * ANSWERS
  *
@@ -79,7 +80,7 @@
  *   one item is empty, and so is r for m = 0.)
  * - Input buffers may overlap each other. An output buffer must not overlap any other buffer of
  *   the same call.
- * - Buffers need no alignment.
+ * - Buffers need no alignment, but for sizes_out of lomvuze_read_sheet.
  * - The calls allocate nothing and keep nothing: there is no global state, and no pointer is used
  *   after the return. Several may run at the same time, as long as none writes to a buffer that
  *   another one uses.
@@ -93,6 +94,7 @@
  *     lomvuze_open      19,968
  *     lomvuze_verify     2,560
  *     lomvuze_decide     4,608
+ *     lomvuze_read_sheet 81,920
  *
  * - The time that a call takes may depend on the numbers in its buffers.
  */
@@ -119,6 +121,8 @@ extern "C" {
 #define LOMVUZE_MIN_T 1
 #define LOMVUZE_MAX_T(k) (4 * (k))
 #define LOMVUZE_MAX_ENTRIES 1024
+#define LOMVUZE_MAX_PAIRS 64
+#define LOMVUZE_MAX_SHEET 60000
 
 /* ---- Lengths in bytes, for permitted sizes. Constant where the arguments are. */
 
@@ -155,13 +159,22 @@ extern "C" {
 #define LOMVUZE_ALL_OPENINGS_BYTES(k, l, t) \
   ((size_t)(t) * ((size_t)(l) + 1) * LOMVUZE_OPENING_BYTES(k))
 
+/* The buffers of lomvuze_read_sheet: the greatest lengths. */
+#define LOMVUZE_SHEET_ENTRIES_BYTES LOMVUZE_ENTRIES_BYTES(LOMVUZE_MAX_ENTRIES)
+#define LOMVUZE_SHEET_ITEMS_BYTES \
+  LOMVUZE_ITEMS_BYTES(LOMVUZE_MAX_M, LOMVUZE_MAX_N, LOMVUZE_MAX_PAIRS)
+#define LOMVUZE_SHEET_WITNESSES_BYTES LOMVUZE_WITNESSES_BYTES(LOMVUZE_MAX_K, LOMVUZE_MAX_PAIRS)
+
 /* ---- Answers */
 
 enum lomvuze_answer {
   LOMVUZE_ACCEPTED = 0,
 
-  /* A size, item count, position count or entry count is not permitted, or a buffer does not
-   * have exactly the length that the sizes give. */
+  /* A sheet has over 60,000 bytes or breaks the line rules. */
+  LOMVUZE_SHEET = 1,
+
+  /* A size, item count, position count, entry count or `end` count is not permitted, or a buffer
+   * does not have exactly the length that the sizes give. */
   LOMVUZE_SIZE = 2,
 
   /* An element, coefficient, entry's value or opened value is p or more. */
@@ -329,6 +342,28 @@ uint32_t lomvuze_decide(uint32_t m, uint32_t n, uint32_t k,
                         const uint8_t *c, size_t c_len,
                         const uint8_t *item, size_t item_len,
                         const uint8_t *wit, size_t wit_len);
+
+/*
+ * Reads a sheet of any bytes (docs/SHEETS.md describes the text): the circuit's entries, the items
+ * and the witnesses, each from the front of its buffer and without gaps, as the other calls take
+ * them. What lies beyond is left as it was.
+ *
+ *   sheet             up to LOMVUZE_MAX_SHEET bytes
+ *   a_out .. c_out    LOMVUZE_SHEET_ENTRIES_BYTES each
+ *   items_out         LOMVUZE_SHEET_ITEMS_BYTES
+ *   wits_out          LOMVUZE_SHEET_WITNESSES_BYTES
+ *   sizes_out         m, n, k, the count of entries of A, B and C, and the count of pairs. An array of
+ *                     numbers in the machine's own order, which has to be aligned as such.
+ *
+ * Checks, in this order: LOMVUZE_SHEET, LOMVUZE_SIZE, LOMVUZE_ELEMENT, LOMVUZE_CIRCUIT.
+ */
+uint32_t lomvuze_read_sheet(const uint8_t *sheet, size_t sheet_len,
+                            uint8_t *a_out, size_t a_out_len,
+                            uint8_t *b_out, size_t b_out_len,
+                            uint8_t *c_out, size_t c_out_len,
+                            uint8_t *items_out, size_t items_out_len,
+                            uint8_t *wits_out, size_t wits_out_len,
+                            uint32_t sizes_out[7]);
 
 #ifdef __cplusplus
 }

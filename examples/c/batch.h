@@ -108,6 +108,7 @@ static inline bool finished(const struct rest *rest) {
 static inline const char *meaning(uint32_t answer) {
   switch (answer) {
     case LOMVUZE_ACCEPTED: return "accepted";
+    case LOMVUZE_SHEET: return "the sheet is over 60,000 bytes or breaks the line rules";
     case LOMVUZE_SIZE: return "a size, count or length is not permitted";
     case LOMVUZE_ELEMENT: return "an element is p or more";
     case LOMVUZE_CIRCUIT: return "a circuit entry is outside or out of order";

@@ -1,0 +1,22 @@
+/* The claim w0 * w1 = x0: casts x0 = 6 with the witness (2, 3) to an item, and decides it. */
+#include <inttypes.h>
+#include <lomvuze.h>
+#include <stdio.h>
+
+int main(void) {
+  /* One row: entries (row, column, value) of A, B and C. Column 0 is x0, columns 1 and 2 are w0 and w1. */
+  const uint8_t a[12] = {0, 0, 0, 0, 1, 0, 0, 0, 1};
+  const uint8_t b[12] = {0, 0, 0, 0, 2, 0, 0, 0, 1};
+  const uint8_t c[12] = {0, 0, 0, 0, 0, 0, 0, 0, 1};
+  const uint8_t r[1] = {0}; /* m = 0: r is empty */
+  const uint8_t x[4] = {6};
+  const uint8_t w[8] = {2, 0, 0, 0, 3};
+  uint8_t item[LOMVUZE_ITEM_BYTES(0, 1)];
+  uint32_t answer = lomvuze_cast(0, 1, 2, a, sizeof a, b, sizeof b, c, sizeof c, r, 0, x, sizeof x, w, sizeof w,
+                                 item, sizeof item);
+  printf("cast %" PRIu32 "\n", answer);
+  if (answer != LOMVUZE_ACCEPTED) return 1;
+  answer = lomvuze_decide(0, 1, 2, a, sizeof a, b, sizeof b, c, sizeof c, item, sizeof item, w, sizeof w);
+  printf("decide %" PRIu32 "\n", answer);
+  return answer == LOMVUZE_ACCEPTED ? 0 : 1;
+}
