@@ -1,0 +1,42 @@
+/*
+ * Faults that a call could have, for the controls of replay.sh. LOMVUZE_FAULT names the one that is made right after each call. This file is
+ * compiled as the library is, without AddressSanitizer.
+ */
+#include <stdlib.h>
+
+#include "target.h"
+
+static volatile uint8_t byte;
+
+static bool is(const char *name) {
+  const char *chosen = getenv("LOMVUZE_FAULT");
+  return chosen != NULL && strcmp(chosen, name) == 0;
+}
+
+uint32_t fault(const struct call *call, uint32_t answer) {
+  static unsigned calls;
+  calls++;
+  for (const struct buffer *in = call->in; in < call->in + MOST_INPUTS && in->bytes != NULL; in++) {
+    if (is("reads-behind-input")) byte = in->bytes[in->length];
+    if (is("reads-before-input")) byte = in->bytes[-1];
+    if (is("writes-input") && in->length > 0) in->bytes[in->length - 1] ^= 1;
+  }
+  for (size_t i = 0; i < MOST_OUTPUTS && call->out[i].bytes != NULL; i++) {
+    const struct buffer *out = &call->out[i];
+    if (is("writes-behind-output")) out->bytes[out->length] = byte;
+    if (is("writes-before-output")) out->bytes[-1] = byte;
+    if (out->length == 0) continue;
+    if (is("writes-at-refusal") && answer != LOMVUZE_ACCEPTED) out->bytes[out->length - 1] ^= 1;
+    if (answer != LOMVUZE_ACCEPTED) continue;
+    size_t end = written(call, i);
+    if (is("writes-beyond") && end < out->length) out->bytes[end] ^= 1;
+    if (is("leaves-a-byte") && end > 0) out->bytes[end - 1] = (uint8_t)calls;
+    if (is("writes-another-byte") && end > 0 && target.outputs[i] != SHEET_SIZES) out->bytes[end - 1] ^= 1;
+  }
+  if (is("cuts-lengths") && call->in[0].length > UINT32_MAX) return LOMVUZE_ACCEPTED;
+  if (is("answers-12")) return 12;
+  if (is("answers-in-turns") && calls % 2 == 0) return LOMVUZE_ACCEPTED;
+  if (is("accepts")) return LOMVUZE_ACCEPTED;
+  if (is("refuses") && answer == LOMVUZE_ACCEPTED) return LOMVUZE_ELEMENT;
+  return answer;
+}

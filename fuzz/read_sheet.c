@@ -1,0 +1,140 @@
+/* lomvuze_read_sheet */
+#include "target.h"
+
+#include <inttypes.h>
+#include <stdio.h>
+
+static uint32_t run(const struct call *c) {
+  return lomvuze_read_sheet(BYTES(c->in[0]), BYTES(c->out[0]), BYTES(c->out[1]), BYTES(c->out[2]), BYTES(c->out[3]), BYTES(c->out[4]),
+                            (uint32_t *)(void *)c->out[5].bytes);
+}
+
+/* The answer with buffers of the greatest lengths is the same. With one of them a byte shorter, check 2 fails, unless check 1 does. */
+static void compare_lengths(const struct call *c, uint32_t answer) {
+  struct call again = *c;
+  for (size_t i = 0; i < 3; i++) again.out[i] = scratch(LOMVUZE_SHEET_ENTRIES_BYTES);
+  again.out[3] = scratch(LOMVUZE_SHEET_ITEMS_BYTES);
+  again.out[4] = scratch(LOMVUZE_SHEET_WITNESSES_BYTES);
+  REQUIRE(run(&again) == answer, "buffers of the greatest lengths have another answer");
+  for (size_t i = 0; i < 5; i++) {
+    again.out[i].length--;
+    REQUIRE(run(&again) == (answer == LOMVUZE_SHEET ? LOMVUZE_SHEET : LOMVUZE_SIZE), "a buffer that is too short is not refused by its check");
+    again.out[i].length++;
+  }
+}
+
+/* ---- Writing a sheet */
+
+static char text[LONGEST];
+static size_t length;
+
+static void put_line(const char *keyword, struct buffer numbers, struct buffer root) {
+  length += (size_t)sprintf(text + length, "%s", keyword);
+  for (size_t i = 0; i < numbers.length; i += LOMVUZE_NUMBER_BYTES) {
+    length += (size_t)sprintf(text + length, "\t%" PRIu32, number_at(numbers.bytes + i));
+  }
+  if (root.length > 0) text[length++] = '\t';
+  for (size_t i = 0; i < root.length; i++) length += (size_t)sprintf(text + length, "%02x", root.bytes[i]);
+  text[length++] = '\n';
+}
+
+/*
+ * The sheet is what was read, written as text: the line rules leave one way to write it, but for the last byte. Deciding finds nothing wrong
+ * with sizes, elements and circuit.
+ */
+static void compare(const struct call *c, uint32_t answer) {
+  compare_lengths(c, answer);
+  if (answer != LOMVUZE_ACCEPTED) return;
+
+  const uint32_t *sizes = sizes_read(c), m = sizes[0], n = sizes[1], k = sizes[2], pairs = sizes[6];
+  struct buffer sheet = c->in[0];
+  REQUIRE(sheet.length <= LOMVUZE_MAX_SHEET, "a sheet that is too long is accepted");
+  REQUIRE(permitted(m, 'm', k) && permitted(n, 'n', k) && permitted(k, 'k', k), "a size that is not permitted");
+  REQUIRE(1 <= pairs && pairs <= LOMVUZE_MAX_PAIRS, "a count of pairs that is not permitted");
+
+  struct buffer none = scratch(0), lists[3], end = scratch(LOMVUZE_NUMBER_BYTES);
+  put_number(end.bytes, pairs);
+  length = 0;
+  put_line("size", slice(c->out[5], 0, 3 * LOMVUZE_NUMBER_BYTES), none);
+  for (size_t i = 0; i < 3; i++) {
+    lists[i] = slice(c->out[i], 0, written(c, i));
+    for (uint32_t j = 0; j < sizes[3 + i]; j++) {
+      put_line((const char *[]){"a", "b", "c"}[i], slice(lists[i], LOMVUZE_ENTRIES_BYTES(j), LOMVUZE_ENTRIES_BYTES(1)), none);
+    }
+  }
+  for (uint32_t i = 0; i < pairs; i++) {
+    struct buffer item = slice(c->out[3], LOMVUZE_ITEMS_BYTES(m, n, i), LOMVUZE_ITEM_BYTES(m, n));
+    struct buffer wit = slice(c->out[4], LOMVUZE_WITNESSES_BYTES(k, i), LOMVUZE_WITNESS_BYTES(k));
+    put_line("item", slice(item, 0, LOMVUZE_ITEM_ROOT(m, n)), slice(item, LOMVUZE_ITEM_ROOT(m, n), LOMVUZE_DIGEST_BYTES));
+    put_line("wit", wit, none);
+    uint32_t decided = lomvuze_decide(m, n, k, BYTES(lists[0]), BYTES(lists[1]), BYTES(lists[2]), BYTES(item), BYTES(wit));
+    REQUIRE(decided == LOMVUZE_ACCEPTED || decided == LOMVUZE_ROOT || decided == LOMVUZE_CLAIM, "deciding refuses what was read");
+  }
+  put_line("end", end, none);
+  REQUIRE((sheet.length == length || sheet.length == length - 1) && memcmp(sheet.bytes, text, sheet.length) == 0, "the sheet says otherwise");
+}
+
+/* ---- Changes that mostly keep the line rules */
+
+/* Puts other bytes in the place of a part of the sheet. */
+static void replace(struct input *input, size_t start, size_t end, const void *bytes, size_t count) {
+  uint8_t *sheet = input->contents[0];
+  size_t rest = input->lengths[0] - end;
+  memmove(sheet + start + count, sheet + end, rest);
+  memcpy(sheet + start, bytes, count);
+  input->more[0] = (int32_t)(start + count + rest);
+  cut(input);
+}
+
+/* The place behind the next such byte, or the end. */
+static size_t behind(const struct input *input, size_t at, uint8_t byte) {
+  size_t end = input->lengths[0];
+  while (at < end && input->contents[0][at] != byte) at++;
+  return at < end ? at + 1 : end;
+}
+
+/* Sets the count on the last line. */
+static void count_pairs(struct input *input) {
+  const uint8_t *sheet = input->contents[0];
+  size_t last = 0, pairs = 0;
+  for (size_t at = 0; at < input->lengths[0]; at = behind(input, at, '\n')) {
+    last = at;
+    pairs += sheet[at] == 'i';
+  }
+  char line[16];
+  replace(input, last, input->lengths[0], line, (size_t)sprintf(line, "end\t%zu\n", pairs));
+}
+
+/* Another number in a field, often of the first line; or a line, or an item with its witness, copied or dropped. */
+static void change(struct input *input, size_t (*below)(size_t)) {
+  static const char *const numbers[] = {"0", "1", "2", "6", "7", "64", "65", "2013265920", "2013265921", "4294967295"};
+  const uint8_t *sheet = input->contents[0];
+  if (input->lengths[0] == 0) return;
+  size_t start = below(input->lengths[0]);
+  if (below(2) == 0) {
+    const char *number = numbers[below(sizeof numbers / sizeof numbers[0])];
+    size_t end = start = behind(input, below(4) == 0 ? below(8) : start, '\t');
+    while (end < input->lengths[0] && sheet[end] >= '0') end++;
+    replace(input, start, end, number, strlen(number));
+  } else {
+    while (start > 0 && (sheet[start - 1] != '\n' || sheet[start] == 'w')) start--;
+    size_t end = behind(input, start, '\n');
+    if (sheet[start] == 'i') end = behind(input, end, '\n');
+    if (below(2) == 0) {
+      replace(input, end, end, sheet + start, end - start);
+    } else {
+      replace(input, start, end, sheet, 0);
+    }
+    if (below(2) == 0) count_pairs(input);
+  }
+}
+
+const struct target target = {
+    "",
+    {SHEET},
+    {SHEET_ENTRIES, SHEET_ENTRIES, SHEET_ENTRIES, SHEET_ITEMS, SHEET_WITNESSES, SHEET_SIZES},
+    {LOMVUZE_SHEET, LOMVUZE_SIZE, LOMVUZE_ELEMENT, LOMVUZE_CIRCUIT},
+    run,
+    compare,
+    change,
+};

@@ -1,0 +1,83 @@
+#!/usr/bin/env bash
+# Runs each fuzz target once on each of its seeds, without a fuzzer, and prints the call's answer: it is the number that the seed's name starts
+# with, and every answer of the call is given. Then the controls: the targets must find the faults of fault.c. Needs cc.
+# LOMVUZE_STATICLIB names another folder with libverdicts.a in it; nothing is built there.
+set -euo pipefail
+cd "$(dirname "$0")/.."
+if [ -z "${LOMVUZE_STATICLIB:-}" ]; then
+    rt staticlib verdicts
+fi
+library="${LOMVUZE_STATICLIB:-target/staticlib}/libverdicts.a"
+folder=target/fuzz/replay
+mkdir -p "$folder"
+fail() { printf 'FAILED: %s\n' "$1"; exit 1; }
+
+# A program for each call that the header declares, without the faults and with them.
+calls=$(sed -n 's/^uint32_t lomvuze_\([a-z_]*\)(.*/\1/p' include/lomvuze.h)
+flags=(-std=c11 -O1 -g -Wall -Wextra -Wpedantic -Werror -Iinclude)
+checked=(-fsanitize=address,undefined -fno-sanitize-recover=undefined)
+for part in target replay $calls; do
+    cc "${flags[@]}" "${checked[@]}" -c -o "$folder/$part.o" "fuzz/$part.c"
+done
+cc "${flags[@]}" -c -o "$folder/fault.o" fuzz/fault.c
+for call in $calls; do
+    objects=("$folder/$call.o" "$folder/target.o" "$folder/replay.o")
+    cc "${checked[@]}" -o "$folder/$call" "${objects[@]}" "$library"
+    cc "${checked[@]}" -o "$folder/$call.faulty" "${objects[@]}" "$folder/fault.o" "$library"
+done
+
+# ---- The seeds
+seeds=0
+for call in $calls; do
+    "$folder/$call" --every fuzz/corpus/"$call"/* >"$folder/$call.answers" || fail "$call"
+    cat "$folder/$call.answers"
+    while read -r file answer; do
+        name=${file##*/}
+        [ "${name%%-*}" = "$answer" ] || fail "$file: answer $answer"
+        seeds=$((seeds + 1))
+    done <"$folder/$call.answers"
+done
+[ "$seeds" -gt 0 ] || fail 'no seeds'
+
+# ---- The controls
+# Runs a target with a fault on a seed: it must end, and say the text.
+control() {
+    local call=$1 seed=$2 fault=$3 text=$4 log="$folder/control.log"
+    export LOMVUZE_FAULT=$fault ASAN_OPTIONS=symbolize=0
+    if { "$folder/$call.faulty" "$seed" >"$log" 2>&1; } 2>/dev/null || ! grep -qF "$text" "$log"; then
+        fail "$seed: the fault $fault is not found, see $log"
+    fi
+    controls=$((controls + 1))
+}
+controls=0
+for call in $calls; do
+    LOMVUZE_FAULT='' "$folder/$call.faulty" fuzz/corpus/"$call"/* >/dev/null || fail "$call: found without a fault"
+    writes=$(sed -n "/^uint32_t lomvuze_$call(/,/;/p" include/lomvuze.h | grep '_out_len' || true)
+    for seed in fuzz/corpus/"$call"/*; do
+        accepted=
+        [[ ${seed##*/} != 0* ]] || accepted=yes
+        control "$call" "$seed" reads-behind-input 'AddressSanitizer: SEGV'
+        control "$call" "$seed" reads-before-input 'AddressSanitizer: SEGV'
+        control "$call" "$seed" writes-input 'FOUND: an input buffer was changed'
+        control "$call" "$seed" answers-12 'FOUND: an answer that is none'
+        if [ "$accepted" ]; then
+            control "$call" "$seed" refuses 'FOUND: '
+            control "$call" "$seed" cuts-lengths 'FOUND: a length of 2^32 more'
+        else
+            control "$call" "$seed" accepts 'FOUND: '
+            control "$call" "$seed" answers-in-turns 'FOUND: another answer'
+        fi
+        if [ "$writes" ]; then
+            control "$call" "$seed" writes-behind-output 'AddressSanitizer: SEGV'
+            control "$call" "$seed" writes-before-output 'AddressSanitizer: SEGV'
+        fi
+        if [ "$writes" ] && [ "$accepted" ]; then
+            control "$call" "$seed" leaves-a-byte 'FOUND: other bytes'
+            control "$call" "$seed" writes-another-byte 'FOUND: '
+            [ "$call" != read_sheet ] || control "$call" "$seed" writes-beyond 'FOUND: bytes beyond'
+        elif [ "$writes" ]; then
+            control "$call" "$seed" writes-at-refusal 'FOUND: a refusal wrote'
+        fi
+    done
+done
+echo "fuzz targets: $seeds seeds with the answers expected; $controls faults found"

@@ -1,0 +1,146 @@
+/*
+ * Fuzz targets: each tries one call of include/lomvuze.h on inputs that a fuzzer makes. The file of a call, such as verify.c, defines
+ * `target`; target.c runs the call and checks what it did, mutator.c changes inputs.
+ *
+ * THE INPUT
+ *
+ * A number takes four bytes, lowest first. Where the input ends, zeros follow.
+ *
+ *   numbers    those that the call takes, in its order
+ *   lengths    a number with sign for each buffer of the call, in its order: what is added to the length that the sizes give the buffer.
+ *              To a list of entries the sizes give none, so that its whole length stands here. A buffer has no less than 0 bytes, and
+ *              at most a page more than at the greatest sizes. A sheet and the sizes read from it have no number here
+ *   contents   of the buffers that the call reads, one after the other. A sheet has all bytes that are left
+ *
+ * The length that sizes give is worked out modulo 2^32, also where they are not permitted: a size of 2^30 comes with small buffers.
+ */
+#ifndef TARGET_H
+#define TARGET_H
+
+#include <stdbool.h>
+#include <string.h>
+
+#include "lomvuze.h"
+
+enum { MOST_NUMBERS = 6, MOST_INPUTS = 6, MOST_OUTPUTS = 6, MOST_BUFFERS = MOST_INPUTS + MOST_OUTPUTS, MOST_CHECKS = 7 };
+
+/* No buffer is longer. */
+enum { LONGEST = 1 << 20 };
+
+/* What a buffer holds. */
+enum part {
+  END,
+  ENTRIES,
+  R,
+  X,
+  WITNESS,
+  WITNESSES,
+  CODEWORD,
+  ROOT,
+  ITEM,
+  ITEMS,
+  QUOTIENT,
+  POSITIONS,
+  OPENINGS,     /* of one witness */
+  ALL_OPENINGS, /* of all items and the new one */
+  SHEET,        /* the only input of its call */
+  SHEET_ENTRIES,
+  SHEET_ITEMS,
+  SHEET_WITNESSES,
+  SHEET_SIZES, /* the last output */
+};
+
+/* Those that the call does not take have permitted values. */
+struct sizes {
+  uint32_t m, n, k, l, t, challenge;
+};
+
+struct buffer {
+  uint8_t *bytes;
+  size_t length;
+};
+
+/* A buffer as two arguments. */
+#define BYTES(buffer) (buffer).bytes, (buffer).length
+
+struct call {
+  struct sizes sizes;
+  struct buffer in[MOST_INPUTS], out[MOST_OUTPUTS];
+};
+
+/* ---- What the file of a call defines */
+
+struct input;
+
+struct target {
+  const char *numbers;                                          /* their letters, in the call's order; a is the challenge */
+  enum part inputs[MOST_INPUTS + 1], outputs[MOST_OUTPUTS + 1]; /* in the call's order; END follows */
+  uint32_t checks[MOST_CHECKS + 1];                             /* that the call runs; 0 follows */
+  uint32_t (*run)(const struct call *call);                     /* makes the call */
+  void (*compare)(const struct call *call, uint32_t answer);    /* compares it with other calls, after it; not for LOMVUZE_SIZE */
+  void (*change)(struct input *input, size_t (*below)(size_t)); /* a change of the mutator for this call alone; NULL for none */
+};
+
+extern const struct target target;
+
+/* ---- For comparisons */
+
+/* Ends the run, as something is found. */
+#define REQUIRE(condition, what) ((condition) ? (void)0 : found(what))
+void found(const char *what);
+
+/* A buffer of zeros that ends where memory does. It is there until the comparison ends. */
+struct buffer scratch(size_t length);
+
+/* What a call that accepted a sheet wrote to SHEET_SIZES: m, n, k, the counts of entries of A, B and C, the count of pairs. */
+const uint32_t *sizes_read(const struct call *call);
+
+/* How many bytes of an output buffer a call that accepts writes: all, but from a sheet as many as sizes and counts say. */
+size_t written(const struct call *call, size_t output);
+
+/* A part of a buffer. */
+struct buffer slice(struct buffer buffer, size_t start, size_t length);
+
+void put_number(uint8_t *bytes, uint32_t number);
+uint32_t number_at(const uint8_t *bytes);
+
+/* The item, for m = 0 and n = 1, of a witness and a circuit without entries. */
+struct buffer item_of(uint32_t k, struct buffer witness);
+
+/* ---- Inputs, for target.c and mutator.c */
+
+struct input {
+  struct sizes sizes;
+  int32_t more[MOST_BUFFERS];   /* what is added to the buffers' lengths, inputs first */
+  size_t lengths[MOST_BUFFERS]; /* the lengths that result */
+  uint8_t contents[MOST_INPUTS][LONGEST];
+};
+
+void unpack(struct input *input, const uint8_t *data, size_t size);
+
+/* Writes at most so many bytes, and says how many. */
+size_t pack(const struct input *input, uint8_t *data, size_t most);
+
+/* Works out the lengths. */
+void cut(struct input *input);
+
+size_t input_count(void);
+size_t buffer_count(void);
+enum part part_of(size_t buffer);
+
+/* A number by its letter, and whether check 2 permits it. */
+uint32_t *number_of(struct sizes *sizes, char letter);
+bool permitted(uint32_t number, char letter, uint32_t k);
+
+/* Whether the call passes check 2. */
+bool fits(const struct input *input);
+
+/* ---- For replay.c and fault.c */
+
+int LLVMFuzzerTestOneInput(const uint8_t *data, size_t size);
+extern uint32_t last_answer;
+
+/* Spoils what a call has just done and gives another answer for it. Linked by the controls of replay.sh alone. */
+uint32_t fault(const struct call *call, uint32_t answer) __attribute__((weak));
+
+#endif
