@@ -1,0 +1,17 @@
+#!/usr/bin/env bash
+# Valgrind must report nothing: on the C examples, as tests/c.sh runs them, and on the edges of every call (rust/samples/edges.rs), whose buffers
+# are as long as they are said to be and no longer. On an error the exit status is 9, which no run expects; reports are left in
+# target/valgrind. It needs valgrind, a C compiler and Rust, and is no part of the gate.
+set -euo pipefail
+cd "$(dirname "$0")/.."
+command -v valgrind >/dev/null || { echo 'valgrind is not on PATH' >&2; exit 1; }
+reports=$PWD/target/valgrind
+rm -rf "$reports"
+mkdir -p "$reports"
+
+valgrind="valgrind --error-exitcode=9 --log-file=$reports/%p.log"
+LOMVUZE_RUN="$valgrind --leak-check=full" bash tests/c.sh
+# Without the search for leaks: Rust's test runner keeps memory to its end.
+CARGO_TARGET_X86_64_UNKNOWN_LINUX_GNU_RUNNER=$valgrind \
+    cargo test --release --offline --manifest-path rust/Cargo.toml -p lomvuze-verdicts --test edges
+echo "valgrind: $(grep -l 'ERROR SUMMARY: 0 errors' "$reports"/*.log | wc -l) runs without an error"
