@@ -9,16 +9,38 @@ use Rattle.lines.specs.declared.keyword.Keyword.{Keyword}
 use Rattle.lines.specs.declared.keyword.Keyword.the-variants.{Size, EntryA, EntryB, EntryC, Item, Wit, End, None}
 use Rattle.lines.specs.Text.{every, decimal, isNumber, isRoot, hexBytes, fields}
 
+-- The keywords as byte strings.
+abbrev pub sizeWord : List ℕ
+sizeWord = 115 ∷ 105 ∷ 122 ∷ 101 ∷ []
+
+abbrev pub aWord : List ℕ
+aWord = 97 ∷ []
+
+abbrev pub bWord : List ℕ
+bWord = 98 ∷ []
+
+abbrev pub cWord : List ℕ
+cWord = 99 ∷ []
+
+abbrev pub itemWord : List ℕ
+itemWord = 105 ∷ 116 ∷ 101 ∷ 109 ∷ []
+
+abbrev pub witWord : List ℕ
+witWord = 119 ∷ 105 ∷ 116 ∷ []
+
+abbrev pub endWord : List ℕ
+endWord = 101 ∷ 110 ∷ 100 ∷ []
+
 -- The keyword that a field is; None for any other field.
 abbrev pub keywordOf : List ℕ → Keyword
 keywordOf f =
-    cond (sameBytes f (97 ∷ [])) EntryA  -- a
-    (cond (sameBytes f (98 ∷ [])) EntryB  -- b
-    (cond (sameBytes f (99 ∷ [])) EntryC  -- c
-    (cond (sameBytes f (105 ∷ 116 ∷ 101 ∷ 109 ∷ [])) Item  -- item
-    (cond (sameBytes f (119 ∷ 105 ∷ 116 ∷ [])) Wit  -- wit
-    (cond (sameBytes f (115 ∷ 105 ∷ 122 ∷ 101 ∷ [])) Size  -- size
-    (cond (sameBytes f (101 ∷ 110 ∷ 100 ∷ [])) End None))))))  -- end
+    cond (sameBytes f aWord) EntryA
+    (cond (sameBytes f bWord) EntryB
+    (cond (sameBytes f cWord) EntryC
+    (cond (sameBytes f itemWord) Item
+    (cond (sameBytes f witWord) Wit
+    (cond (sameBytes f sizeWord) Size
+    (cond (sameBytes f endWord) End None))))))
 
 -- How many numbers a line may have. More than the least on a line `item` or `wit` is a matter of check 2.
 abbrev pub countFits : Keyword → ℕ → Bool

@@ -15,34 +15,13 @@ use Rattle.theory.proofs.Equality.{same-bytes, equal-bytes, same-test}
 use Rattle.lines.specs.declared.keyword.Keyword.{Keyword}
 use Rattle.lines.specs.declared.keyword.Keyword.the-variants.{Size, EntryA, EntryB, EntryC, Item, Wit, End}
 use Rattle.lines.specs.Text.{every, decimal, isNumber}
-use Rattle.lines.specs.Lines.{keywordOf, countFits, Line, numbersLine, front, last, itemLine, lineWith, lineOf}
+use Rattle.lines.specs.Lines.{keywordOf, countFits, Line, numbersLine, front, last, itemLine, lineWith, lineOf, sizeWord, aWord, bWord, cWord, itemWord, witWord, endWord}
 use Rattle.lines.specs.LineWriting.{writeNumber, writeHex}
 use Rattle.sheet.specs.Writing.{numberFields, Numbers32}
 use Rattle.sheet.proofs.WrittenNumbers.{Plain, number-written, decimal-written, plain-number, root-written, bytes-written, plain-root}
 use Rattle.sheet.proofs.WrittenText.{lineText, fields-written}
 
 -- ---- keywords
-
-abbrev pub sizeWord : List ℕ
-sizeWord = 115 ∷ 105 ∷ 122 ∷ 101 ∷ []
-
-abbrev pub aWord : List ℕ
-aWord = 97 ∷ []
-
-abbrev pub bWord : List ℕ
-bWord = 98 ∷ []
-
-abbrev pub cWord : List ℕ
-cWord = 99 ∷ []
-
-abbrev pub itemWord : List ℕ
-itemWord = 105 ∷ 116 ∷ 101 ∷ 109 ∷ []
-
-abbrev pub witWord : List ℕ
-witWord = 119 ∷ 105 ∷ 116 ∷ []
-
-abbrev pub endWord : List ℕ
-endWord = 101 ∷ 110 ∷ 100 ∷ []
 
 -- Byte strings are compared byte by byte.
 same-next : (x y : ℕ) (xs ys : List ℕ) → sameBytes (x ∷ xs) (y ∷ ys) ≡ (eqb x y && sameBytes xs ys)

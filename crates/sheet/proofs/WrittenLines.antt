@@ -12,13 +12,13 @@ use Rattle.theory.specs.R1cs.{Entry}
 use Rattle.lines.specs.declared.keyword.Keyword.{Keyword}
 use Rattle.lines.specs.declared.keyword.Keyword.the-variants.{Size, EntryA, EntryB, EntryC, Wit, End}
 use Rattle.lines.specs.Text.{lines}
-use Rattle.lines.specs.Lines.{Line, keywordOf, countFits, numbersLine, lineWith, lineOf}
+use Rattle.lines.specs.Lines.{Line, keywordOf, countFits, numbersLine, lineWith, lineOf, sizeWord, aWord, bWord, cWord, itemWord, witWord, endWord}
 use Rattle.lines.specs.LineWriting.{writeLine}
 use Rattle.sheet.specs.Sheet.{sheetLines}
 use Rattle.sheet.specs.Writing.{Pair, Document, numberFields, entryNumbers, writeEntries, writePairs, writeSheet, WritablePair, WritableEntries, Writable}
 use Rattle.sheet.proofs.WrittenNumbers.{Plain}
 use Rattle.sheet.proofs.WrittenText.{lineText, OneLine, one-line, line-more, line-ended, textOf, textOf-append, lines-front}
-use Rattle.sheet.proofs.LineMeaning.{sizeWord, aWord, bWord, cWord, itemWord, witWord, endWord, keyword-size, keyword-a, keyword-b, keyword-c, keyword-wit, keyword-end, plain-numbers, line-said, itemFields, item-plain, item-line-said}
+use Rattle.sheet.proofs.LineMeaning.{keyword-size, keyword-a, keyword-b, keyword-c, keyword-wit, keyword-end, plain-numbers, line-said, itemFields, item-plain, item-line-said}
 use Rattle.sheet.proofs.DocumentLines.{entryLine, pairLines, sizeLine, endLine, documentLines}
 
 -- ---- texts, each without its last byte

@@ -11,6 +11,7 @@ use Rattle.theory.specs.R1cs.{Entry}
 use Rattle.theory.specs.Checks.{Check, check}
 use Rattle.theory.specs.Sizes.{sizes}
 use Rattle.lines.specs.Text.{every}
+use Rattle.lines.specs.Lines.{sizeWord, aWord, bWord, cWord, itemWord, witWord, endWord}
 use Rattle.lines.specs.LineWriting.{writeNumber, writeHex, writeLine}
 use Rattle.sheet.specs.Reading.{contentChecks, filled, ReadSheet}
 
@@ -45,18 +46,18 @@ writeEntries word (e ∷ es) = writeLine word (numberFields (entryNumbers e)) ++
 unfoldable pub writePairs : List Pair → List ℕ
 writePairs [] = []
 writePairs (q ∷ qs) =
-    writeLine (105 ∷ 116 ∷ 101 ∷ 109 ∷ []) (numberFields (q .numbers) ++ (writeHex (q .root) ∷ []))  -- item
-    ++ (writeLine (119 ∷ 105 ∷ 116 ∷ []) (numberFields (q .witness))  -- wit
+    writeLine itemWord (numberFields (q .numbers) ++ (writeHex (q .root) ∷ []))
+    ++ (writeLine witWord (numberFields (q .witness))
     ++ writePairs qs)
 
 unfoldable pub writeSheet : Document → List ℕ
 writeSheet d =
-    writeLine (115 ∷ 105 ∷ 122 ∷ 101 ∷ []) (numberFields (d .m ∷ d .n ∷ d .k ∷ []))  -- size
-    ++ (writeEntries (97 ∷ []) (d .a)  -- a
-    ++ (writeEntries (98 ∷ []) (d .b)  -- b
-    ++ (writeEntries (99 ∷ []) (d .c)  -- c
+    writeLine sizeWord (numberFields (d .m ∷ d .n ∷ d .k ∷ []))
+    ++ (writeEntries aWord (d .a)
+    ++ (writeEntries bWord (d .b)
+    ++ (writeEntries cWord (d .c)
     ++ (writePairs (d .pairs)
-    ++ writeLine (101 ∷ 110 ∷ 100 ∷ []) (numberFields (length (d .pairs) ∷ []))))))  -- end
+    ++ writeLine endWord (numberFields (length (d .pairs) ∷ []))))))
 
 -- ---- what can be written: numbers of 32 bits, at least one number a line, roots of 32 bytes
 
