@@ -2,22 +2,20 @@
 -- f takes the values e at the nodes exactly if it is the combination of e plus the vanishing polynomial times a quotient.
 -- Assumes nothing.
 use mathlib.Core.Path.{_≡_}
-use mathlib.Core.Logic.{_≢_}
 use mathlib.Core.List.{List, [], _∷_}
 use Prim.Native.Nat.{ℕ, suc, _+_, _≤_, _<_}
 use native.Mathlib.Omega.{arith}
 use lib.ListN.{length}
 use Rattle.algebra.specs.Ring.{CommRing, Field}
-use Rattle.algebra.specs.Lists.{All, Distinct, Differ, build}
+use Rattle.algebra.specs.Lists.{Differ, build}
 use Rattle.algebra.specs.Polynomial.{evalPoly, PolyFn}
 use Rattle.algebra.specs.Lagrange.{combine}
 use Rattle.algebra.specs.Vanishing.{vanishing}
 use Rattle.algebra.proofs.Solver.{x₀, x₁, x₂, x₃, x₄, _:+_, _:*_, _:-_, :-_, num, ring-from}
 use Rattle.algebra.proofs.ListLaws.{length-build, All-build, distinct-differ}
-use Rattle.algebra.proofs.PolynomialLaws.{PolyFn-add, PolyFn-sub}
-use Rattle.algebra.proofs.RootBound.{equal-everywhere}
+use Rattle.algebra.proofs.PolynomialLaws.{PolyFn-sub}
 use Rattle.algebra.proofs.LagrangeLaws.{combine-at, PolyFn-combine}
-use Rattle.algebra.proofs.VanishingLaws.{vanishing-root, PolyFn-multiple, PolyFn-divide, quotient-unique}
+use Rattle.algebra.proofs.VanishingLaws.{vanishing-root, PolyFn-divide}
 
 module _ (F : Field) (l : ℕ) (node : ℕ → F .ring .carrier) where
   open Field F using (ring as R)
@@ -53,18 +51,3 @@ module _ (F : Field) (l : ℕ) (node : ℕ → F .ring .carrier) (different : Di
   pub fold-values : {f : K → K} (e : ℕ → K) (q : List K) → ((x : K) → FoldsAt F l node f e q x) → (i : ℕ) → i < l → f (node i) ≡ e i
   fold-values {f} e q h i k = ring-from R (f (node i) ∷ combine F l node e (node i) ∷ vanishing R (build l node) (node i) ∷ evalPoly R q (node i) ∷ e i ∷ [])
       x₀ x₄ ((num 1, x₀, x₁ :+ x₂ :* x₃) ∷ (x₃, x₂, num 0) ∷ (num 1, x₁, x₄) ∷ []) (h (node i), (vanishing-root R l node i k, (combine-at F l node different e i k, tt))) tt
-
-  -- If it holds at more than d different points, for a quotient that keeps the degree, it holds everywhere; so f takes the values e at the nodes.
-  pub fold-sound : {d : ℕ} {f : K → K} → PolyFn R d f → (e : ℕ → K) (q : List K) → l ≤ suc d → l + length q ≤ suc d → (ps : List K) → d < length ps → Distinct ps
-      → All (FoldsAt F l node f e q) ps → (i : ℕ) → i < l → f (node i) ≡ e i
-  fold-sound {d} {f} p e q hl hq ps many dist h = fold-values e q (equal-everywhere F p right ps many dist h)
-    where
-      right : PolyFn R d (λ x. combine F l node e x ⊕ vanishing R (build l node) x ⊗ evalPoly R q x)
-      right = PolyFn-add R (PolyFn-combine F l node different d e hl) (PolyFn-multiple R (build l node) q d (omega (arith, length-build l node)))
-
-  -- The quotient is the only one with as many coefficients, where the field has that many points beside the nodes.
-  pub fold-unique : {f : K → K} (e : ℕ → K) (q s rs : List K) → Distinct rs → All (λ r. All (λ a. r ≢ a) (build l node)) rs → length q ≡ length rs → length s ≡ length rs
-      → ((x : K) → FoldsAt F l node f e q x) → ((x : K) → FoldsAt F l node f e s x) → q ≡ s
-  fold-unique {f} e q s rs dist out lq ls h k = quotient-unique F (build l node) rs q s dist out lq ls
-      (λ x. ring-from R (f x ∷ combine F l node e x ∷ (vanishing R (build l node) x ⊗ evalPoly R q x) ∷ (vanishing R (build l node) x ⊗ evalPoly R s x) ∷ [])
-      x₂ x₃ ((:- num 1, x₀, x₁ :+ x₂) ∷ (num 1, x₀, x₁ :+ x₃) ∷ []) (h x, (k x, tt)) tt)

@@ -9,16 +9,13 @@ use native.Mathlib.Omega.{arith}
 use native.Mathlib.Decide.{decLt}
 use lib.Dec.{T, eqb, eqb→eq, eqb-refl}
 use Rattle.algebra.specs.Ring.{CommRing, Field}
-use Rattle.algebra.specs.Lists.{Differ, build}
-use Rattle.algebra.specs.Sums.{sumTo}
+use Rattle.algebra.specs.Lists.{Differ}
 use Rattle.algebra.specs.Polynomial.{PolyFn}
 use Rattle.algebra.specs.Lagrange.{factor, basis, combine}
 use Rattle.algebra.proofs.RingLaws.{eq-of-sub}
 use Rattle.algebra.proofs.Solver.{x₀, x₁, x₂, _:*_, _:-_, num, ring-eq}
-use Rattle.algebra.proofs.ListLaws.{length-build, All-build, distinct-differ}
-use Rattle.algebra.proofs.SumLaws.{sumTo-single, sumTo-cong, prodTo-cong, prodTo-one, prodTo-zero}
+use Rattle.algebra.proofs.SumLaws.{sumTo-single, prodTo-cong, prodTo-one, prodTo-zero}
 use Rattle.algebra.proofs.PolynomialLaws.{total, PolyFn-const, PolyFn-id, PolyFn-sub, PolyFn-weaken, PolyFn-cong, PolyFn-scale, PolyFn-sumTo, PolyFn-prodTo}
-use Rattle.algebra.proofs.RootBound.{equal-everywhere}
 
 -- The two answers of a test for equality.
 eqb-split : (i j : ℕ) → ((eqb i j ≡ true) × (i ≡ j)) ⊎ ((eqb i j ≡ false) × (i ≢ j))
@@ -105,14 +102,3 @@ module _ (F : Field) where
     pub PolyFn-combine : (d : ℕ) (v : ℕ → K) → l ≤ suc d → PolyFn R d (combine F l node v)
     PolyFn-combine d v h = PolyFn-sumTo R d l (λ i x. basis F l node i x ⊗ v i)
         (λ i p. PolyFn-cong R (λ x. ring-eq R (basis F l node i x ∷ v i ∷ []) (x₀ :* x₁) (x₁ :* x₀) tt) (PolyFn-scale R (v i) (PolyFn-basis d i p h)))
-
-    -- A polynomial function of degree below l is the combination of its values at the nodes.
-    pub combine-unique : (d : ℕ) {f : K → K} → l ≡ suc d → PolyFn R d f → (x : K) → f x ≡ combine F l node (λ i. f (node i)) x
-    combine-unique d {f} h p x = equal-everywhere F p (PolyFn-combine d (λ i. f (node i)) (omega arith)) (build l node)
-        (omega (arith, length-build l node)) (distinct-differ l node different)
-        (All-build (λ b. f b ≡ combine F l node (λ i. f (node i)) b) l node (λ j q. sym (combine-at (λ i. f (node i)) j q))) x
-
-    -- The basis sums to 1.
-    pub basis-sum : (d : ℕ) → l ≡ suc d → (x : K) → sumTo R l (λ i. basis F l node i x) ≡ 𝟙
-    basis-sum d h x = sumTo-cong R l (λ i. basis F l node i x) (λ i. basis F l node i x ⊗ 𝟙) (λ i p. sym (mul-one (basis F l node i x)))
-        ∙ sym (combine-unique d h (PolyFn-const R 𝟙 d) x)

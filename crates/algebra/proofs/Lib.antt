@@ -12,3 +12,4 @@ pub mod LagrangeLaws
 pub mod VanishingLaws
 pub mod FoldLaws
 pub mod Filling
+pub mod TrialDivision

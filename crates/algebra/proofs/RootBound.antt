@@ -5,7 +5,6 @@ use mathlib.Core.Logic.{_≢_}
 use mathlib.Core.List.{List, [], _∷_}
 use Prim.Native.Nat.{ℕ, suc, _≤_, _<_}
 use native.Mathlib.Omega.{arith}
-use native.Mathlib.Decide.{decLt}
 use lib.ListN.{length}
 use Rattle.algebra.specs.Ring.{CommRing, Field}
 use Rattle.algebra.specs.Lists.{All, Distinct}
@@ -94,11 +93,3 @@ module _ (F : Field) where
   pub equal-everywhere : {d : ℕ} {f g : K → K} → PolyFn R d f → PolyFn R d g → (ps : List K) → d < length ps → Distinct ps → All (λ b. f b ≡ g b) ps → (x : K) → f x ≡ g x
   equal-everywhere {d} {f} {g} p q ps l dist h x =
       eq-of-sub R (f x) (g x) (zero-everywhere (PolyFn-sub R p q) ps l dist (All-map (λ b e. ap (λ (y : K). y ⊕ ⊝ g b) e ∙ add-neg (g b)) ps h) x)
-
-  -- A polynomial function of degree at most d that is not zero somewhere has at most d different roots.
-  pub root-count : {d : ℕ} {f : K → K} → PolyFn R d f → (ps : List K) → Distinct ps → All (λ b. f b ≡ 𝟘) ps → (x : K) → f x ≢ 𝟘 → length ps ≤ d
-  root-count {d} p ps dist h x ne = go (decLt d (length ps))
-    where
-      go : Dec (d < length ps) → length ps ≤ d
-      go (yes l) = absurd (ne (zero-everywhere p ps l dist h x))
-      go (no l) = omega arith

@@ -13,11 +13,10 @@ use Rattle.algebra.specs.Polynomial.{evalPoly, PolyFn}
 use Rattle.algebra.specs.Vanishing.{vanishing}
 use Rattle.algebra.proofs.RingLaws.{mul-zero, eq-of-sub}
 use Rattle.algebra.proofs.Solver.{x₀, x₁, x₂, _:+_, _:*_, _:-_, num, ring-eq}
-use Rattle.algebra.proofs.FieldLaws.{cancel-factor, cancel-left}
-use Rattle.algebra.proofs.ListLaws.{All-map, All-member, map-agree}
+use Rattle.algebra.proofs.FieldLaws.{cancel-factor}
+use Rattle.algebra.proofs.ListLaws.{All-map}
 use Rattle.algebra.proofs.PolynomialLaws.{PolyFn-const, PolyFn-id, PolyFn-sub, PolyFn-mul, PolyFn-weaken, PolyFn-cong}
 use Rattle.algebra.proofs.RootBound.{quotient, length-quotient, factor-root, quotient-roots}
-use Rattle.algebra.proofs.InterpolationLaws.{interpolation-unique}
 
 module _ (R : CommRing) where
   open CommRing R using (carrier as K, zero as 𝟘, one as 𝟙, add as _⊕_, mul as _⊗_, neg as ⊝_)
@@ -90,12 +89,6 @@ module _ (F : Field) where
   pub vanishing-nonzero : (ps : List K) (x : K) → All (λ a. x ≢ a) ps → vanishing R ps x ≢ 𝟘
   vanishing-nonzero [] x h e = F .one≢zero e
   vanishing-nonzero (a ∷ ps) x h e = vanishing-nonzero ps x (h .1) (cancel-factor F (x ⊕ ⊝ a) (vanishing R ps x) (λ z. h .0 (eq-of-sub R x a z)) e)
-
-  -- The quotient is the only one with n coefficients, where the field has n more points: rs.
-  pub quotient-unique : (ps rs cs ds : List K) → Distinct rs → All (λ r. All (λ a. r ≢ a) ps) rs → length cs ≡ length rs → length ds ≡ length rs
-      → ((x : K) → vanishing R ps x ⊗ evalPoly R cs x ≡ vanishing R ps x ⊗ evalPoly R ds x) → cs ≡ ds
-  quotient-unique ps rs cs ds d out lc ld h = interpolation-unique F rs cs ds d lc ld (map-agree (evalPoly R cs) (evalPoly R ds) rs
-      (λ r m. cancel-left F (vanishing R ps r) (evalPoly R cs r) (evalPoly R ds r) (vanishing-nonzero ps r (All-member (λ s. All (λ a. s ≢ a) ps) rs out m)) (h r)))
 
   -- A polynomial function of degree below l + n that vanishes at l different points is the vanishing polynomial times one of n coefficients.
   pub PolyFn-divide : {d : ℕ} {f : K → K} → PolyFn R d f → (ps : List K) (n : ℕ) → suc d ≤ length ps + n → Distinct ps → All (λ b. f b ≡ 𝟘) ps

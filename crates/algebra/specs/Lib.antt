@@ -5,3 +5,4 @@ pub mod Polynomial
 pub mod Interpolation
 pub mod Lagrange
 pub mod Vanishing
+pub mod Prime

@@ -1,4 +1,4 @@
--- The points of a witness count are pairwise different: no power of the root from 1 to 255 is 1.
+-- The points of a witness count are pairwise different: no power of the generator from 1 to 255 is 1.
 -- Assumes nothing.
 use mathlib.Core.Path.{_≡_, sym, _∙_, ap, subst}
 use mathlib.Core.Logic.{_≢_}
@@ -15,43 +15,43 @@ use Rattle.algebra.proofs.ListLaws.{distinct-build}
 use Rattle.algebra.proofs.PowerLaws.{pow-add}
 use Rattle.field.specs.BabyBear.{p, babyBear, R, F, val, 𝟘, 𝟙, _⊗_}
 use Rattle.field.proofs.Laws.{val-one, val-small, ofℕ-nonzero}
-use Rattle.code.specs.Points.{isWitnessCount, root, point, points}
+use Rattle.code.specs.Points.{isWitnessCount, generator, point, points}
 use Rattle.code.proofs.Sizes.{step-whole, step-positive}
 use Rattle.code.proofs.Points.{point-zero, point-suc, point-step}
-use Rattle.code.proofs.Root.{rootNumber, root-number, next}
+use Rattle.code.proofs.Generator.{generatorNumber, generator-number, next}
 
--- None of n numbers from x on, each the one before times the root, is 1.
+-- None of n numbers from x on, each the one before times the generator, is 1.
 neverOne : ℕ → ℕ → Bool
 neverOne zero x = true
-neverOne (suc n) x = not (eqb x 1) && neverOne n (x * rootNumber % p)
+neverOne (suc n) x = not (eqb x 1) && neverOne n (x * generatorNumber % p)
 
-neverOne-sound : (f : ℕ → F) → ((i : ℕ) → f (suc i) ≡ f i ⊗ root 64) → (n x : ℕ) → x ≡ val (f 0) → T (neverOne n x) → (i : ℕ) → i < n → f i ≢ 𝟙
+neverOne-sound : (f : ℕ → F) → ((i : ℕ) → f (suc i) ≡ f i ⊗ generator 64) → (n x : ℕ) → x ≡ val (f 0) → T (neverOne n x) → (i : ℕ) → i < n → f i ≢ 𝟙
 unfolding neverOne
 neverOne-sound f follows zero x e t i h = absurd (omega arith)
-neverOne-sound f follows (suc n) x e t zero h = λ z. T-not (eqb x 1) (and-l (not (eqb x 1)) (neverOne n (x * rootNumber % p)) t)
+neverOne-sound f follows (suc n) x e t zero h = λ z. T-not (eqb x 1) (and-l (not (eqb x 1)) (neverOne n (x * generatorNumber % p)) t)
     (subst (λ (y : ℕ). T (eqb y 1)) (sym (e ∙ ap val z ∙ val-one)) (eqb-refl 1))
 neverOne-sound f follows (suc n) x e t (suc i) h =
-    neverOne-sound (λ i. f (suc i)) (λ i. follows (suc i)) n (x * rootNumber % p) (next f follows x 0 e) (and-r (not (eqb x 1)) (neverOne n (x * rootNumber % p)) t) i (omega arith)
+    neverOne-sound (λ i. f (suc i)) (λ i. follows (suc i)) n (x * generatorNumber % p) (next f follows x 0 e) (and-r (not (eqb x 1)) (neverOne n (x * generatorNumber % p)) t) i (omega arith)
 
--- No power of the root from 1 to 255 is 1.
+-- No power of the generator from 1 to 255 is 1.
 order : (d : ℕ) → d < 255 → point 64 (suc d) ≢ 𝟙
-order = neverOne-sound (λ i. point 64 (suc i)) (λ i. point-suc 64 (suc i)) 255 rootNumber
-    (sym (ap val (point-suc 64 0 ∙ ap (λ (a : F). a ⊗ root 64) (point-zero 64) ∙ R .mul-comm 𝟙 (root 64) ∙ R .mul-one (root 64) ∙ root-number) ∙ val-small {n = rootNumber} (lit< tt)))
+order = neverOne-sound (λ i. point 64 (suc i)) (λ i. point-suc 64 (suc i)) 255 generatorNumber
+    (sym (ap val (point-suc 64 0 ∙ ap (λ (a : F). a ⊗ generator 64) (point-zero 64) ∙ R .mul-comm 𝟙 (generator 64) ∙ R .mul-one (generator 64) ∙ generator-number) ∙ val-small {n = generatorNumber} (lit< tt)))
     (unfold neverOne in tt)
 
-root-nonzero : root 64 ≢ 𝟘
-root-nonzero e = ofℕ-nonzero {n = rootNumber} (lit< tt) (lit< tt) (sym root-number ∙ e)
+generator-nonzero : generator 64 ≢ 𝟘
+generator-nonzero e = ofℕ-nonzero {n = generatorNumber} (lit< tt) (lit< tt) (sym generator-number ∙ e)
 
 point-nonzero : (i : ℕ) → point 64 i ≢ 𝟘
 point-nonzero zero e = babyBear .one≢zero (sym (point-zero 64) ∙ e)
-point-nonzero (suc i) e = point-nonzero i (cancel-factor babyBear (root 64) (point 64 i) root-nonzero (R .mul-comm (root 64) (point 64 i) ∙ sym (point-suc 64 i) ∙ e))
+point-nonzero (suc i) e = point-nonzero i (cancel-factor babyBear (generator 64) (point 64 i) generator-nonzero (R .mul-comm (generator 64) (point 64 i) ∙ sym (point-suc 64 i) ∙ e))
 
 -- Were points i and j one, for i < j, the power j - i would be 1.
 earlier : (i j : ℕ) → i < j → j < 256 → point 64 i ≢ point 64 j
 unfolding point
 earlier i j h l e = order (j - suc i) (omega arith)
     (sym (cancel-left babyBear (point 64 i) 𝟙 (point 64 (suc (j - suc i))) (point-nonzero i)
-    (R .mul-one (point 64 i) ∙ e ∙ ap (point 64) whole ∙ pow-add R (root 64) i (suc (j - suc i)))))
+    (R .mul-one (point 64 i) ∙ e ∙ ap (point 64) whole ∙ pow-add R (generator 64) i (suc (j - suc i)))))
   where
     whole : j ≡ i + suc (j - suc i)
     whole = omega arith

@@ -2,7 +2,7 @@ pub mod Evaluation
 pub mod Uniqueness
 pub mod Sizes
 pub mod Points
-pub mod Root
+pub mod Generator
 pub mod Different
 pub mod Numbers
 pub mod Taken

@@ -16,12 +16,12 @@ abbrev pub isWitnessCount : ℕ → Bool
 isWitnessCount k = eqb k 2 || eqb k 4 || eqb k 8 || eqb k 16 || eqb k 32 || eqb k 64
 
 -- g, for k witness numbers.
-unfoldable pub root : ℕ → F
-root k = pow R (ofℕ 31) ((p - 1) / (4 * k))
+unfoldable pub generator : ℕ → F
+generator k = pow R (ofℕ 31) ((p - 1) / (4 * k))
 
 -- Point i.
 unfoldable pub point : ℕ → ℕ → F
-point k i = pow R (root k) i
+point k i = pow R (generator k) i
 
 -- The 4k points.
 unfoldable pub points : ℕ → List F

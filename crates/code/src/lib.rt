@@ -9,7 +9,7 @@ ghost use Rattle.code.specs.Codeword.{valueAt, codeword};
 ghost use Rattle.code.specs.Points.{isWitnessCount, depth, points, taken};
 ghost use Rattle.field.specs.Numbers.{Below};
 
-// The points for 64 witness numbers: the first is 1, and each is the one before times the same root.
+// The points for 64 witness numbers: the first is 1, and each is the one before times the same generator.
 const POINTS: [u32; 256] = [
     1,
     1732600167,

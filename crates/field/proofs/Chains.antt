@@ -1,18 +1,10 @@
 -- An operation's promise where its operands are already the numbers of elements: the results of other operations.
 -- With a ≡ val x and b ≡ val y, the promise r ≡ val (ofℕ a ⊕ ofℕ b) says r ≡ val (x ⊕ y).
 -- Assumes nothing.
-use mathlib.Core.Path.{_≡_, ap, ap₂, _∙_}
+use mathlib.Core.Path.{_≡_, ap₂, _∙_}
 use Prim.Native.Nat.{ℕ}
-use Rattle.algebra.specs.Polynomial.{pow}
-use Rattle.field.specs.BabyBear.{R, F, val, ofℕ, _⊕_, _⊖_, ⊝_, _⊗_}
+use Rattle.field.specs.BabyBear.{F, val, ofℕ, _⊕_, _⊖_, _⊗_}
 use Rattle.field.proofs.Laws.{ofℕ-of}
-
-module _ {a r : ℕ} (x : F) (is : a ≡ val x) where
-  pub opposite-of : r ≡ val (⊝ ofℕ a) → r ≡ val (⊝ x)
-  opposite-of e = e ∙ ap (λ (u : F). val (⊝ u)) (ofℕ-of x is)
-
-  pub power-of : (n : ℕ) → r ≡ val (pow R (ofℕ a) n) → r ≡ val (pow R x n)
-  power-of n e = e ∙ ap (λ (u : F). val (pow R u n)) (ofℕ-of x is)
 
 module _ {a b r : ℕ} (x y : F) (is : a ≡ val x) (is' : b ≡ val y) where
   pub sum-of : r ≡ val (ofℕ a ⊕ ofℕ b) → r ≡ val (x ⊕ y)

@@ -3,7 +3,7 @@
 use mathlib.Core.Path.{_≡_, refl, sym, ap, _∙_}
 use mathlib.Core.Logic.{_≢_}
 use Prim.Native.Nat.{ℕ, zero, suc, _+_, _*_, _-_, _%_, _≤_, _<_}
-use native.Mathlib.Nat.{mod-eq-of-lt, mod-mod, zero-mod, mod-self, add-sub-of-le}
+use native.Mathlib.Nat.{mod-eq-of-lt, zero-mod, mod-self, add-sub-of-le}
 use native.Mathlib.Numerals.{add-one}
 use native.Mathlib.Omega.{arith}
 use lib.Dec.{lit<}
@@ -45,9 +45,6 @@ ofℕ-of a e = ap ofℕ e ∙ ofℕ-val a
 -- Numbers with the same remainder are the same element.
 pub ofℕ-eq : (m n : ℕ) → m % p ≡ n % p → ofℕ m ≡ ofℕ n
 ofℕ-eq m n e = val-inj _ _ (val-ofℕ m ∙ e ∙ sym (val-ofℕ n))
-
-pub ofℕ-mod : (n : ℕ) → ofℕ (n % p) ≡ ofℕ n
-ofℕ-mod n = ofℕ-eq (n % p) n (mod-mod n p)
 
 -- Different numbers below p are different elements.
 pub ofℕ-inj : {m n : ℕ} → m < p → n < p → ofℕ m ≡ ofℕ n → m ≡ n

@@ -13,7 +13,7 @@ use Rattle.algebra.proofs.FieldLaws.{inv-unique}
 use Rattle.field.specs.BabyBear.{p, babyBear, F, val, ofℕ, inv}
 use Rattle.field.specs.Inverses.{smallInverses}
 use Rattle.field.proofs.Laws.{val-small, val-zero, ofℕ-zero, ofℕ-one, ofℕ-eq, ofℕ-mul, inv-zero}
-use Rattle.field.proofs.Tables.{every, table-of}
+use Rattle.field.proofs.Tables.{everyEntry, table-of}
 
 -- A number below p whose product with n leaves 1 is that of the inverse of n.
 inverse-number : (n x : ℕ) → x < p → n * x % p ≡ 1 → x ≡ val (inv (ofℕ n))
@@ -32,7 +32,7 @@ isInverse-sound (suc n) x t =
     inverse-number (suc n) x (ltb→lt x p small) (eqb→eq (suc n * x % p) 1 one)
 
 -- A table of 64 entries that passes the test is the table of the small inverses.
-pub smallInverses-by-test : (xs : List ℕ) → length xs ≡ 64 → T (every isInverse xs) → xs ≡ smallInverses
+pub smallInverses-by-test : (xs : List ℕ) → length xs ≡ 64 → T (everyEntry isInverse xs) → xs ≡ smallInverses
 unfolding smallInverses
 smallInverses-by-test xs l t = table-of (λ n. val (inv (ofℕ n))) isInverse isInverse-sound xs t ∙ ap (λ (n : ℕ). build n (λ n. val (inv (ofℕ n)))) l
 

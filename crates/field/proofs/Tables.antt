@@ -10,14 +10,14 @@ use lib.ListN.{length}
 use Rattle.algebra.specs.Lists.{build}
 
 -- The test passes at each index and its entry.
-abbrev pub every : (ℕ → ℕ → Bool) → List ℕ → Bool
-every test [] = true
-every test (x ∷ xs) = test 0 x && every (λ i. test (suc i)) xs
+abbrev pub everyEntry : (ℕ → ℕ → Bool) → List ℕ → Bool
+everyEntry test [] = true
+everyEntry test (x ∷ xs) = test 0 x && everyEntry (λ i. test (suc i)) xs
 
 -- Where only f i passes the test at i, a table that passes at every index is the table of f.
-pub table-of : (f : ℕ → ℕ) (test : ℕ → ℕ → Bool) → ((i x : ℕ) → T (test i x) → x ≡ f i) → (xs : List ℕ) → T (every test xs) → xs ≡ build (length xs) f
+pub table-of : (f : ℕ → ℕ) (test : ℕ → ℕ → Bool) → ((i x : ℕ) → T (test i x) → x ≡ f i) → (xs : List ℕ) → T (everyEntry test xs) → xs ≡ build (length xs) f
 table-of f test sound [] t = refl
-table-of f test sound (x ∷ xs) t = ap₂ {C = List ℕ} _∷_ (sound 0 x (and-l (test 0 x) (every rest xs) t)) (table-of (λ i. f (suc i)) rest (λ i. sound (suc i)) xs (and-r (test 0 x) (every rest xs) t))
+table-of f test sound (x ∷ xs) t = ap₂ {C = List ℕ} _∷_ (sound 0 x (and-l (test 0 x) (everyEntry rest xs) t)) (table-of (λ i. f (suc i)) rest (λ i. sound (suc i)) xs (and-r (test 0 x) (everyEntry rest xs) t))
   where
     rest : ℕ → ℕ → Bool
     rest i = test (suc i)

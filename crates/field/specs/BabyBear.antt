@@ -4,8 +4,9 @@
 use Prim.Native.Nat.{ℕ}
 use lib.Dec.{lit<}
 use Rattle.algebra.specs.Ring.{CommRing, Field}
-use Rattle.field.specs.Modular.{Prime, residue, primeField}
-use Rattle.field.specs.TrialDivision.{prime-by-trial}
+use Rattle.algebra.specs.Prime.{Prime}
+use Rattle.algebra.proofs.TrialDivision.{prime-by-trial}
+use Rattle.field.specs.Modular.{residue, primeField}
 
 abbrev pub p : ℕ
 p = 2013265921

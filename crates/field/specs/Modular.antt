@@ -11,6 +11,7 @@ use native.Mathlib.Bridge.{le-prop}
 use native.Mathlib.Decide.{ℕ-discrete}
 use native.Mathlib.Omega.{arith}
 use Rattle.algebra.specs.Ring.{CommRing, Field}
+use Rattle.algebra.specs.Prime.{Prime}
 use Rattle.algebra.proofs.Solver.{x₀, x₁, x₂, x₃, _:+_, _:*_, _:-_, :-_, num, ring-eq, ring-from}
 
 pub mod-mul-mod : (a b m : ℕ) → (a % m * b) % m ≡ (a * b) % m
@@ -64,10 +65,6 @@ module _ (n : ℕ) (big : 1 < n) where
 
   pub residue-self : (u : Residue) → residue (u .0) ≡ u
   residue-self u = residue-eq (mod-eq-of-lt (u .1))
-
--- p has no divisor between 1 and itself.
-abbrev pub Prime : ℕ → Type 0
-Prime p = (d : ℕ) → 1 < d → d < p → 0 < p % d
 
 module _ (p : ℕ) (big : 1 < p) (prime : Prime p) where
   open CommRing (modular p big) using (carrier as K, zero as 𝟘, one as 𝟙, add as _⊕_, mul as _⊗_, neg as ⊝_)

@@ -2,3 +2,4 @@ pub mod Bounds
 pub mod Bytes
 pub mod Filling
 pub mod Loading
+pub mod Tests

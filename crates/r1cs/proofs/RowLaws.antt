@@ -17,7 +17,8 @@ use Rattle.field.specs.BabyBear.{p, R, F, val, ofℕ, 𝟘, _⊕_, _⊗_}
 use Rattle.field.proofs.Laws.{val-zero, below-p}
 use Rattle.field.proofs.Chains.{sum-of}
 use Rattle.theory.specs.R1cs.{Entry, onlyIf, rowSum}
-use Rattle.theory.specs.Buffers.{entryCount, rowAt, columnAt, coefficientAt, entryAt, matrix}
+use Rattle.theory.specs.Buffers.{entryCount, rowAt, columnAt, entryValueAt}
+use Rattle.theory.specs.Fp.{entryAt, matrix}
 use Rattle.r1cs.specs.Rows.{rowSums}
 
 module _ (K : CommRing) where
@@ -58,7 +59,7 @@ module _ {entries z : List ℕ} {i : ℕ} {sums : List ℕ} (s : Summed entries 
       at : (j : ℕ) → j < 64 → getD sums j 0 ≡ getD (build 64 f) j 0
       at j h = s .sum j h ∙ ap (λ (n : ℕ). val (rowSoFar entries z n j)) e ∙ sym (getD-build 64 f j 0 h)
 
-  module _ {row column coefficient product sum : ℕ} (er : row ≡ rowAt entries i) (ec : column ≡ columnAt entries i) (ev : coefficient ≡ coefficientAt entries i)
+  module _ {row column coefficient product sum : ℕ} (er : row ≡ rowAt entries i) (ec : column ≡ columnAt entries i) (ev : coefficient ≡ entryValueAt entries i)
       (hr : row < 64) (hc : column < length z) (ep : product ≡ val (ofℕ coefficient ⊗ ofℕ (getD z column 0)))
       (es : sum ≡ val (ofℕ (getD sums row 0) ⊕ ofℕ product)) where
     abbrev added : F

@@ -14,7 +14,7 @@ use Rattle.field.specs.BabyBear.{p, R, F, val, ofℕ, _⊕_, _⊖_, _⊗_}
 use Rattle.field.proofs.Laws.{val-zero, below-p}
 use Rattle.field.proofs.Chains.{sum-of, difference-of, product-of}
 use Rattle.theory.specs.R1cs.{rowSum, residual, weight, weightedSum}
-use Rattle.theory.specs.Buffers.{matrix, circuit}
+use Rattle.theory.specs.Fp.{matrix, circuit}
 use Rattle.r1cs.specs.Rows.{rowSums}
 
 -- ---- the number of rows

@@ -4,7 +4,8 @@ use Prim.Native.Nat.{ℕ, _<_}
 use Rattle.algebra.specs.Lists.{build}
 use Rattle.field.specs.BabyBear.{R, val, ofℕ}
 use Rattle.theory.specs.R1cs.{rowSum}
-use Rattle.theory.specs.Buffers.{entryCount, rowAt, columnAt, matrix}
+use Rattle.theory.specs.Buffers.{entryCount, rowAt, columnAt}
+use Rattle.theory.specs.Fp.{matrix}
 
 -- Every entry has a row below `rows` and a column below `columns`.
 abbrev pub EntriesInside : ℕ → ℕ → List ℕ → Type 0

@@ -6,7 +6,7 @@ ghost use lib.ListN.{length};
 ghost use Rattle.field.specs.BabyBear.{p, R, val, ofℕ};
 ghost use Rattle.field.specs.Numbers.{Below};
 ghost use Rattle.theory.specs.R1cs.{bitWeight, weight, weightedSum};
-ghost use Rattle.theory.specs.Buffers.{circuit};
+ghost use Rattle.theory.specs.Fp.{circuit};
 ghost use Rattle.r1cs.specs.Rows.{EntriesInside, rowSums};
 
 // Row j of a matrix times z, for each j below 64: every entry adds to its row.

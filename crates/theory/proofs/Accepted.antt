@@ -1,123 +1,110 @@
 -- What an accepted fold has: verifying and deciding answer 0 to it, so each of their checks passes.
-use mathlib.Core.Path.{_≡_, refl, sym, _∙_, ap}
+use mathlib.Core.Path.{_≡_, sym, _∙_, ap}
 use mathlib.Core.Bool.{true, _&&_}
 use mathlib.Core.List.{List, [], _∷_}
-use Prim.Native.Nat.{ℕ, zero, suc, _+_, _*_, _≤_, _<_}
+use Prim.Native.Nat.{ℕ, suc, _*_, _≤_, _<_}
 use native.Mathlib.Omega.{arith}
-use borrow.Author.Tests.{eqb-true, leb-true}
-use lib.Dec.{eqb, leb}
+use borrow.Author.Tests.{eqb-true}
+use lib.Dec.{eqb}
 use lib.ListN.{length}
+use Rattle.algebra.specs.Ring.{CommRing}
 use Rattle.algebra.specs.Lists.{All}
 use Rattle.algebra.proofs.ListLaws.{length-build}
 use Rattle.numbers.proofs.Bytes.{length-numbers}
 use Rattle.numbers.proofs.Bounds.{below}
-use Rattle.field.specs.BabyBear.{p, babyBear, F}
-use Rattle.tree.specs.Layout.{openingSize}
+use Rattle.numbers.proofs.Tests.{and-left, and-right, each-true, equal-bytes}
 use Rattle.code.specs.Points.{isWitnessCount, depth}
 use Rattle.tree.proofs.ReadBack.{digests-length}
 use Rattle.theory.specs.Items.{Item}
 use Rattle.theory.specs.Combination.{newR, newX, newE, quotientSize, Shaped}
 use Rattle.theory.specs.Folds.{Opening, Shown, Fold, positionCount, openingAt}
-use Rattle.theory.specs.Checks.{Check}
-use Rattle.theory.specs.Instance.{sha, code}
+use Rattle.theory.specs.Instance.{Instance, sameElement, sameElements, code}
 use Rattle.theory.specs.Buffers.{elements, circuit, itemSize, readItems, readWitness}
-use Rattle.theory.specs.Sizes.{sizes, itemCountFits, positionCountFits, hasLength}
-use Rattle.theory.specs.Calls.{sameElement, sameElements, verifyChecks, verify, decideChecks, decide}
+use Rattle.theory.specs.Sizes.{hasLength, sizes, circuitFits}
+use Rattle.theory.specs.Calls.{verify, decide}
 use Rattle.theory.specs.Statements.{FoldBytes, isAccepted, readFold}
 use Rattle.theory.proofs.Passing.{Passes}
-use Rattle.theory.proofs.CheckLaws.{and-left, and-right, each-true, every-true, Passed, answer-passed}
-use Rattle.theory.proofs.Challenges.{permitted-below}
-use Rattle.theory.proofs.Equality.{equal-bytes, equal-element, equal-elements}
-use Rattle.theory.proofs.Reading.{length-readItems, read-shaped, openingAt-readShown}
+use Rattle.theory.proofs.CheckLaws.{every-true}
+use Rattle.theory.proofs.Passed.{VerifyPasses, verify-passes, DecidePasses, decide-passes}
+use Rattle.theory.proofs.Equality.{equal-element, equal-elements}
+use Rattle.theory.proofs.HonestList.{witness-count, some-item, few-items}
+use Rattle.theory.proofs.Reading.{length-readItems, read-shaped, one-matches, one-holds, openingAt-readShown}
 
-module _ (m n k l : ℕ) (a b c items quotient : List ℕ) (f : FoldBytes) (accepted : isAccepted m n k l a b c items quotient f ≡ true) where
-  abbrev batch : List (Item F)
-  batch = readItems m n l items
+module _ (I : Instance) (m n k l : ℕ) (a b c items quotient : List ℕ) (f : FoldBytes I) (accepted : isAccepted I m n k l a b c items quotient f ≡ true) where
+  open Instance I using (field as F, format as E, hash as H)
+  open CommRing (F .ring) using (carrier as K)
 
-  abbrev coefficients : List F
-  coefficients = elements (quotientSize m l) quotient
+  abbrev batch : List (Item K)
+  batch = readItems I m n l items
 
-  abbrev fold : Fold F
-  fold = readFold m n k l a b c items quotient f
+  abbrev coefficients : List K
+  coefficients = elements I (quotientSize m l) quotient
 
-  abbrev shown : Shown F
+  abbrev fold : Fold K
+  fold = readFold I m n k l a b c items quotient f
+
+  abbrev shown : Shown K
   shown = fold .shown
 
   -- ---- both calls answer 0
 
   abbrev verifying : ℕ
-  verifying = verify m n k l (f .t) (f .challenge) items (f .positions) quotient (f .item) (f .openings)
+  verifying = verify I m n k l (f .t) (f .challenge) items (f .positions) quotient (f .item) (f .openings)
 
   abbrev deciding : ℕ
-  deciding = decide m n k a b c (f .item) (f .witness)
+  deciding = decide I m n k a b c (f .item) (f .witness)
 
-  abbrev verifyTests : List Check
-  verifyTests = verifyChecks m n k l (f .t) (f .challenge) items (f .positions) quotient (f .item) (f .openings)
-
-  abbrev decideTests : List Check
-  decideTests = decideChecks m n k a b c (f .item) (f .witness)
-
-  verified : All Passed verifyTests
+  verified : VerifyPasses I m n k l (f .t) (f .challenge) items (f .positions) quotient (f .item) (f .openings)
   unfolding verify
-  verified = answer-passed verifyTests (omega arith) (eqb-true verifying 0 (and-left (eqb verifying 0) (eqb deciding 0) accepted))
+  verified = verify-passes I m n k l (f .t) (f .challenge) items (f .positions) quotient (f .item) (f .openings)
+      (eqb-true verifying 0 (and-left (eqb verifying 0) (eqb deciding 0) accepted))
 
-  decided : All Passed decideTests
+  decided : DecidePasses I m n k a b c (f .item) (f .witness)
   unfolding decide
-  decided = answer-passed decideTests (omega arith) (eqb-true deciding 0 (and-right (eqb verifying 0) (eqb deciding 0) accepted))
+  decided = decide-passes I m n k a b c (f .item) (f .witness) (eqb-true deciding 0 (and-right (eqb verifying 0) (eqb deciding 0) accepted))
 
-  -- ---- check 2: sizes and counts
+  -- ---- sizes and counts
 
-  check2 : All (λ t. t ≡ true) (sizes m n k ∷ itemCountFits l ∷ positionCountFits k (f .t)
-      ∷ hasLength items (l * itemSize m n) ∷ hasLength (f .positions) (4 * f .t) ∷ hasLength quotient (4 * quotientSize m l)
-      ∷ hasLength (f .item) (itemSize m n) ∷ hasLength (f .openings) (f .t * suc l * openingSize (depth k)) ∷ [])
-  check2 = each-true (sizes m n k) (itemCountFits l ∷ positionCountFits k (f .t)
-      ∷ hasLength items (l * itemSize m n) ∷ hasLength (f .positions) (4 * f .t) ∷ hasLength quotient (4 * quotientSize m l)
-      ∷ hasLength (f .item) (itemSize m n) ∷ hasLength (f .openings) (f .t * suc l * openingSize (depth k)) ∷ []) (verified .0)
+  pub counted : isWitnessCount k ≡ true
+  counted = witness-count m n k (verified .fits .sizes-fit)
 
-  pub sizes-fit : sizes m n k ≡ true
-  sizes-fit = check2 .0
-
-  pub witness-count : isWitnessCount k ≡ true
-  witness-count = and-right (leb m 6 && leb 1 n && leb n 64) (isWitnessCount k) sizes-fit
-
-  some-item : 1 ≤ l
-  some-item = leb-true 1 l (and-left (leb 1 l) (leb l 8) (check2 .1 .0))
-
-  pub few-items : l ≤ 8
-  few-items = leb-true l 8 (and-right (leb 1 l) (leb l 8) (check2 .1 .0))
+  pub at-most-eight : l ≤ 8
+  at-most-eight = few-items l (verified .fits .count-fits)
 
   position-count : positionCount shown ≡ f .t
-  position-count = length-numbers (f .t) (f .positions) (eqb-true (length (f .positions)) (4 * f .t) (check2 .1 .1 .1 .1 .0))
+  position-count = length-numbers (f .t) (f .positions) (eqb-true (length (f .positions)) (4 * f .t) (verified .fits .positions-fit))
 
-  -- ---- check 5: the challenge
+  item-size : length (f .item) ≡ itemSize I m n
+  item-size = eqb-true (length (f .item)) (itemSize I m n) (verified .fits .item-fits)
 
-  pub challenge-below : f .challenge < p
-  challenge-below = permitted-below l (f .challenge) (verified .1 .1 .0)
+  witness-size : length (f .witness) ≡ E .size k
+  witness-size = eqb-true (length (f .witness)) (E .size k)
+      (and-right (sizes m n k && circuitFits a b c && hasLength (f .item) (itemSize I m n)) (hasLength (f .witness) (E .size k)) (decided .fits))
 
   -- ---- check 7: the new item
 
-  check7 : All (λ t. t ≡ true) (sameElements (shown .item .r) (newR babyBear m batch (shown .challenge))
-      ∷ sameElements (shown .item .x) (newX babyBear n batch (shown .challenge))
-      ∷ sameElement (shown .item .e) (newE babyBear batch coefficients (shown .challenge)) ∷ [])
-  check7 = each-true (sameElements (shown .item .r) (newR babyBear m batch (shown .challenge)))
-      (sameElements (shown .item .x) (newX babyBear n batch (shown .challenge))
-      ∷ sameElement (shown .item .e) (newE babyBear batch coefficients (shown .challenge)) ∷ []) (verified .1 .1 .1 .1 .0)
+  check7 : All (λ t. t ≡ true) (sameElements I (shown .item .r) (newR F m batch (shown .challenge))
+      ∷ sameElements I (shown .item .x) (newX F n batch (shown .challenge))
+      ∷ sameElement I (shown .item .e) (newE F batch coefficients (shown .challenge)) ∷ [])
+  check7 = each-true (sameElements I (shown .item .r) (newR F m batch (shown .challenge)))
+      (sameElements I (shown .item .x) (newX F n batch (shown .challenge))
+      ∷ sameElement I (shown .item .e) (newE F batch coefficients (shown .challenge)) ∷ []) (verified .combine)
 
   -- ---- what the buffers are read as
 
   item-count : length batch ≡ l
-  item-count = length-readItems m n l items
+  item-count = length-readItems I m n l items
 
-  shaped : Shaped babyBear m n k batch (readWitness k (f .witness))
-  shaped = read-shaped m n l items k (f .witness) some-item
+  shaped : Shaped F m n k batch (readWitness I k (f .witness))
+  shaped = read-shaped I m n l items k (f .witness) (some-item l (verified .fits .count-fits))
 
-  siblings : (q : ℕ) → q < positionCount shown → (i : ℕ) → i < suc (length batch) → length (openingAt babyBear batch shown q i .siblings) ≡ depth k
+  siblings : (q : ℕ) → q < positionCount shown → (i : ℕ) → i < suc (length batch) → length (openingAt F batch shown q i .siblings) ≡ depth k
   siblings q h i j =
-      ap (λ (o : Opening F). length (o .siblings))
-      (openingAt-readShown m n k l (f .t) (f .challenge) items (f .positions) (f .item) (f .openings) q i (omega (arith, position-count)) (omega (arith, item-count)))
+      ap (λ (o : Opening K). length (o .siblings))
+      (openingAt-readShown I m n k l (f .t) (f .challenge) items (f .positions) (f .item) (f .openings) q i (omega (arith, position-count)) (omega (arith, item-count)))
       ∙ digests-length (f .openings) _ (depth k)
 
-  pub passes : Passes babyBear sha (code k) (circuit a b c) m n batch coefficients fold
+  pub passes : Passes F H (code I k) (circuit I a b c) m n batch coefficients fold
   passes = record {
     some-item = shaped .some-item;
     item-r = shaped .item-r;
@@ -125,12 +112,12 @@ module _ (m n k l : ℕ) (a b c items quotient : List ℕ) (f : FoldBytes) (acce
     coefficients = length-build (quotientSize m l) _ ∙ ap (quotientSize m) (sym item-count);
     siblings = siblings;
     witness = length-build k _;
-    inside = below (4 * k) (shown .positions) (verified .1 .1 .1 .0);
-    new-r = equal-elements _ _ (check7 .0);
-    new-x = equal-elements _ _ (check7 .1 .0);
-    new-e = equal-element _ _ (check7 .1 .1 .0);
-    leads = λ q h i j. equal-bytes _ _ (every-true _ _ (every-true _ _ (verified .1 .1 .1 .1 .1 .0) q h) i j);
-    combines = λ q h. equal-element _ _ (every-true _ _ (verified .1 .1 .1 .1 .1 .1 .0) q h);
-    matches = equal-bytes _ _ (decided .1 .1 .1 .0);
-    holds = equal-element _ _ (decided .1 .1 .1 .1 .0);
+    inside = below (4 * k) (shown .positions) (verified .inside);
+    new-r = equal-elements I _ _ (check7 .0);
+    new-x = equal-elements I _ _ (check7 .1 .0);
+    new-e = equal-element I _ _ (check7 .1 .1 .0);
+    leads = λ q h i j. equal-bytes _ _ (every-true _ _ (every-true _ _ (verified .lead) q h) i j);
+    combines = λ q h. equal-element I _ _ (every-true _ _ (verified .values-combine) q h);
+    matches = equal-bytes _ _ (sym (one-matches I m n k (f .item) (f .witness) item-size witness-size) ∙ decided .claims .all-match);
+    holds = equal-element I _ _ (sym (one-holds I m n k (f .item) (f .witness) item-size witness-size a b c) ∙ decided .claims .all-hold);
   }

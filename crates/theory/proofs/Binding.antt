@@ -16,7 +16,7 @@ use Rattle.tree.proofs.Shown.{binding-apart, opening-shows-apart}
 use Rattle.theory.specs.R1cs.{Circuit}
 use Rattle.theory.specs.Items.{Hash, Code, Item, leaves}
 use Rattle.theory.specs.Combination.{itemAt}
-use Rattle.theory.specs.Folds.{Shown, Fold, positionCount, positionAt, openingAt, valueAt, leafAt, way, hashed, hashedFor}
+use Rattle.theory.specs.Folds.{Shown, Fold, positionCount, positionAt, openingAt, valueAt, leafAt, openingStringsOf, hashed, hashedFor}
 use Rattle.theory.proofs.Passing.{HashLaws, CodeLaws, Passes}
 use Rattle.theory.proofs.ItemLaws.{leaves-length, leaves-at, itemOf-item, itemOf-new}
 
@@ -39,17 +39,17 @@ module _ (F : Field) where
 
     module _ (folds : List (Fold K)) (f : Fold K) (member : List·Memᴰ f folds) where
       -- So are those of each opening, and those of the tree over the witness's codeword.
-      way-within : (q i : ℕ) → q < positionCount (f .shown) → i < suc (length items) → Within (way F items H C (f .shown) q i) (hashedFor F items H C folds)
-      way-within q i hq hi a m =
+      opening-within : (q i : ℕ) → q < positionCount (f .shown) → i < suc (length items) → Within (openingStringsOf F items H C (f .shown) q i) (hashedFor F items H C folds)
+      opening-within q i hq hi a m =
           fold-within folds f member a
           (Memᴰ·append-left (treeStrings (H .digest) (C .depth) (leaves F H (codeword R (C .points) (f .witness))))
-          (mem-concatTo (positionCount (f .shown)) (λ s. concatTo (suc (length items)) (λ j. way F items H C (f .shown) s j)) q hq
-          (mem-concatTo (suc (length items)) (λ j. way F items H C (f .shown) q j) i hi m)))
+          (mem-concatTo (positionCount (f .shown)) (λ s. concatTo (suc (length items)) (λ j. openingStringsOf F items H C (f .shown) s j)) q hq
+          (mem-concatTo (suc (length items)) (λ j. openingStringsOf F items H C (f .shown) q j) i hi m)))
 
       tree-within : Within (treeStrings (H .digest) (C .depth) (leaves F H (codeword R (C .points) (f .witness)))) (hashedFor F items H C folds)
       tree-within a m =
           fold-within folds f member a
-          (Memᴰ·append-right (concatTo (positionCount (f .shown)) (λ q. concatTo (suc (length items)) (λ i. way F items H C (f .shown) q i))) m)
+          (Memᴰ·append-right (concatTo (positionCount (f .shown)) (λ q. concatTo (suc (length items)) (λ i. openingStringsOf F items H C (f .shown) q i))) m)
 
     module _ (hash-laws : HashLaws K H) (M : Circuit K) (m n : ℕ) (quotient : List K) (folds : List (Fold K)) (apart : NoCollision (H .digest) (hashedFor F items H C folds)) where
       -- The new item's opened value is the witness's codeword at the position.
@@ -60,7 +60,7 @@ module _ (F : Field) where
           (opening-shows-apart (H .digest) (hash-laws .digest-length) (hashedFor F items H C folds) apart (C .depth) (leaves F H (codeword R (C .points) (f .witness)))
           (leafAt F items H C s q (length items)) p (openingAt F items s q (length items) .siblings)
           (leaves-length F H C code-laws (f .witness)) (omega (arith, passes .inside q hq, code-laws .size)) (passes .siblings q hq (length items) (omega arith))
-          (way-within folds f member q (length items) hq (omega arith)) (tree-within folds f member)
+          (opening-within folds f member q (length items) hq (omega arith)) (tree-within folds f member)
           (passes .leads q hq (length items) (omega arith) ∙ ap (λ (t : Item K). t .root) (itemOf-new F items s) ∙ passes .matches)
           ∙ leaves-at F H C code-laws (f .witness) p (passes .inside q hq))
         where
@@ -81,7 +81,7 @@ module _ (F : Field) where
           (openingRoot (H .digest) (H .entry s (valueAt F items (f .shown) q i)) s (openingAt F items (f .shown) q i .siblings) ≡ itemAt F items i .root)
           × Within (openingStrings (H .digest) (H .entry s (valueAt F items (f .shown) q i)) s (openingAt F items (f .shown) q i .siblings)) (hashedFor F items H C folds))
           e
-          (passes .leads q hq i (omega arith) ∙ ap (λ (t : Item K). t .root) (itemOf-item F items (f .shown) i hi), way-within folds f member q i hq (omega arith))
+          (passes .leads q hq i (omega arith) ∙ ap (λ (t : Item K). t .root) (itemOf-item F items (f .shown) i hi), opening-within folds f member q i hq (omega arith))
 
       -- Two openings of one item at one position show one value.
       pub one-value : (f g : Fold K) → List·Memᴰ f folds → List·Memᴰ g folds → Passes F H C M m n items quotient f → Passes F H C M m n items quotient g

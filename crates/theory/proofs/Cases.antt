@@ -9,7 +9,7 @@ use Rattle.field.proofs.Laws.{val-inj}
 use Rattle.code.specs.Points.{point, points}
 use Rattle.code.specs.Codeword.{valueAt, codeword}
 use Rattle.code.proofs.Points.{point-zero, point-step}
-use Rattle.code.proofs.Root.{root-number}
+use Rattle.code.proofs.Generator.{generator-number}
 use Rattle.theory.specs.Combination.{Z, node, itemAt, quotientOf}
 use Rattle.theory.specs.Cases.{Case, cases}
 
@@ -29,7 +29,7 @@ inv-Z = inv-unique babyBear (Z babyBear 2 (node babyBear 2)) (ofℕ 1006632961) 
 
 half-way : point 2 4 ≡ ofℕ 2013265920
 unfolding point
-half-way = sym (point-step 2 4 refl) ∙ ap (λ (g : F). pow R g 128) root-number ∙ val-inj (pow R (ofℕ 1732600167) 128) (ofℕ 2013265920) (unfold pow babyBear val ofℕ in refl)
+half-way = sym (point-step 2 4 refl) ∙ ap (λ (g : F). pow R g 128) generator-number ∙ val-inj (pow R (ofℕ 1732600167) 128) (ofℕ 2013265920) (unfold pow babyBear val ofℕ in refl)
 
 -- ---- the table
 

@@ -12,14 +12,14 @@ use Rattle.algebra.specs.Sums.{prodTo}
 use Rattle.algebra.specs.Lagrange.{factor}
 use Rattle.algebra.proofs.RingLaws.{eq-of-sub, mul-zero}
 use Rattle.algebra.proofs.FieldLaws.{cancel-factor}
+use Rattle.numbers.proofs.Tests.{and-left, and-right}
 use Rattle.field.specs.BabyBear.{p, babyBear, F, ofℕ, 𝟘}
 use Rattle.field.proofs.Laws.{ofℕ-inj, ofNat-ofℕ, ofNat-differ}
 use Rattle.theory.specs.Combination.{node, L, mix}
-use Rattle.theory.specs.Sizes.{challengeFits}
-use Rattle.theory.proofs.CheckLaws.{and-left, and-right}
+use Rattle.theory.specs.Fp.{challengeFits}
 use Rattle.theory.proofs.CombinationLaws.{mix-at}
 
--- ---- beside the nodes no L_i is 0
+-- ---- outside the nodes no L_i is 0
 module _ (F : Field) where
   open Field F using (ring as R, inv, mul-inv, one≢zero)
   open CommRing R using (carrier as K, zero as 𝟘, one as 𝟙, add as _⊕_, mul as _⊗_, neg as ⊝_)
@@ -36,13 +36,13 @@ module _ (F : Field) where
 
   module _ (l : ℕ) (different : (i j : ℕ) → i < l → j < l → i ≢ j → node F i ≢ node F j) where
     L-nonzero : (i : ℕ) (x : K) → i < l → ((j : ℕ) → j < l → x ≢ node F j) → L F l i x ≢ 𝟘
-    L-nonzero i x h beside = prodTo-nonzero l (λ j. factor F (eqb i j) (node F i) (node F j) x) (λ j q. go j q (eqb i j) (λ e d. false≢true (sym e ∙ eq-eqb i j d)))
+    L-nonzero i x h outside = prodTo-nonzero l (λ j. factor F (eqb i j) (node F i) (node F j) x) (λ j q. go j q (eqb i j) (λ e d. false≢true (sym e ∙ eq-eqb i j d)))
       where
         go : (j : ℕ) → j < l → (b : Bool) → (b ≡ false → i ≢ j) → factor F b (node F i) (node F j) x ≢ 𝟘
         go j q true e z = one≢zero z
         go j q false e z = inv-nonzero (node F i ⊕ ⊝ node F j)
             (λ y. different i j h q (e refl) (eq-of-sub R (node F i) (node F j) y))
-            (cancel-factor F (x ⊕ ⊝ node F j) (inv (node F i ⊕ ⊝ node F j)) (λ y. beside j q (eq-of-sub R x (node F j) y)) z)
+            (cancel-factor F (x ⊕ ⊝ node F j) (inv (node F i ⊕ ⊝ node F j)) (λ y. outside j q (eq-of-sub R x (node F j) y)) z)
 
 -- ---- at the field of p elements
 

@@ -1,35 +1,14 @@
--- The laws of checks: an answer is 0 exactly if every check passes; tests that hold, in parts and over ranges; decisions.
--- (Tests of numbers: eqb-true, eq-eqb, leb-true, le-leb, ltb-true and lt-ltb of borrow.Author.Tests.)
-use mathlib.Core.Path.{_≡_, refl, _∙_, ap, ap₂}
-use mathlib.Core.Bool.{Bool, true, false, _&&_, false≢true}
-use mathlib.Core.List.{List, [], _∷_}
+-- The laws of checks: an answer is 0 exactly if every check passes; tests that hold over ranges.
+use mathlib.Core.Path.{_≡_, refl, _∙_, ap}
+use mathlib.Core.Logic.{_≢_}
+use mathlib.Core.Bool.{Bool, true, false}
+use mathlib.Core.List.{List, [], _∷_, _++_}
 use Prim.Native.Nat.{ℕ, zero, suc, _<_}
 use native.Mathlib.Decide.{ℕ-discrete}
 use native.Mathlib.Omega.{arith}
 use Rattle.algebra.specs.Lists.{All}
-use Rattle.theory.specs.Checks.{Check, answerIf, answer, written, every, decided}
-
--- ---- two tests
-pub and-left : (a b : Bool) → (a && b) ≡ true → a ≡ true
-and-left true b e = refl
-and-left false b e = e
-
-pub and-right : (a b : Bool) → (a && b) ≡ true → b ≡ true
-and-right true b e = e
-and-right false b e = absurd (false≢true e)
-
-infixl 40 _&_
-pub _&_ : {a b : Bool} → a ≡ true → b ≡ true → (a && b) ≡ true
-e & h = ap₂ _&&_ e h
-
--- ---- tests that are joined by &&: each passes
-abbrev pub joined : Bool → List Bool → Bool
-joined a [] = a
-joined a (b ∷ bs) = joined (a && b) bs
-
-pub each-true : (a : Bool) (bs : List Bool) → joined a bs ≡ true → All (λ b. b ≡ true) (a ∷ bs)
-each-true a [] h = (h, tt)
-each-true a (b ∷ bs) h = let t = each-true (a && b) bs h in (and-left a b (t .0), (and-right a b (t .0), t .1))
+use Rattle.numbers.proofs.Tests.{and-left, and-right, _&_}
+use Rattle.theory.specs.Checks.{Check, answerIf, answer, written, every}
 
 -- ---- a test of each number below n
 pub every-true : (n : ℕ) (f : ℕ → Bool) → every n f ≡ true → (i : ℕ) → i < n → f i ≡ true
@@ -46,14 +25,9 @@ unfolding every
 true-every zero f h = refl
 true-every (suc n) f h = true-every n f (λ i l. h i (omega arith)) & h n (omega arith)
 
--- ---- decisions
-pub decided-true : {P : Type 0} (d : Dec P) → decided d ≡ true → P
-decided-true (yes p) e = p
-decided-true (no h) e = absurd (false≢true e)
-
-pub true-decided : {P : Type 0} (d : Dec P) → P → decided d ≡ true
-true-decided (yes p) q = refl
-true-decided (no h) q = absurd (h q)
+pub every-one : (f : ℕ → Bool) → every 1 f ≡ f 0
+unfolding every
+every-one f = refl
 
 -- ---- answers
 -- The check passes.
@@ -79,6 +53,24 @@ answer-refused c cs h = rw h
 
 pub answer-next : (c : Check) (cs : List Check) → c .passes ≡ true → answer (c ∷ cs) ≡ answer cs
 answer-next c cs h = rw h
+
+pub passed-split : (cs ds : List Check) → All Passed (cs ++ ds) → All Passed cs × All Passed ds
+passed-split [] ds h = (tt, h)
+passed-split (c ∷ cs) ds h = let s = passed-split cs ds (h .1) in ((h .0, s .0), s .1)
+
+-- A group of checks before others: where it refuses, it gives the answer; where all of it passes, the others do.
+pub group-refused : (cs ds : List Check) → answer cs ≢ 0 → answer (cs ++ ds) ≡ answer cs
+group-refused [] ds h = absurd (h refl)
+group-refused (c ∷ cs) ds h = go (c .passes) (group-refused cs ds) h
+  where
+    go : (b : Bool) → (answer cs ≢ 0 → answer (cs ++ ds) ≡ answer cs) → answerIf b (c .number) (answer cs) ≢ 0
+        → answerIf b (c .number) (answer (cs ++ ds)) ≡ answerIf b (c .number) (answer cs)
+    go true ih n = ih n
+    go false ih n = refl
+
+pub group-passed : (cs ds : List Check) → All Passed cs → answer (cs ++ ds) ≡ answer ds
+group-passed [] ds h = refl
+group-passed (c ∷ cs) ds h = rw (h .0) (group-passed cs ds (h .1))
 
 -- ---- buffers
 pub written-accepted : {a : ℕ} (result before : List ℕ) → a ≡ 0 → written a result before ≡ result

@@ -1,17 +1,17 @@
 -- The combination at a challenge (paper 01, "Claims and folds"): what it is at the nodes, its degree in the challenge, and that the
 -- polynomial, the values and the codeword of combined lists are the combinations of those of the lists.
-use mathlib.Core.Path.{_≡_, sym, _∙_, ap}
+use mathlib.Core.Path.{_≡_, _∙_, ap}
 use mathlib.Core.List.{List}
 use Prim.Native.Nat.{ℕ, suc, _≤_, _<_}
 use lib.ListN.{length, getD}
 use Rattle.algebra.specs.Ring.{CommRing, Field}
 use Rattle.algebra.specs.Lists.{Differ}
-use Rattle.algebra.specs.Polynomial.{evalPoly, PolyFn}
+use Rattle.algebra.specs.Polynomial.{PolyFn}
 use Rattle.algebra.proofs.ListLaws.{length-build, getD-build, build-cong, build-getD}
 use Rattle.algebra.proofs.SumLaws.{sumTo-cong}
 use Rattle.algebra.proofs.LagrangeLaws.{combine-at, PolyFn-combine}
 use Rattle.code.specs.Codeword.{valueAt, codeword}
-use Rattle.code.proofs.Evaluation.{valueAt-evalPoly, valueAt-linear, codeword-linear}
+use Rattle.code.proofs.Evaluation.{valueAt-linear, codeword-linear}
 use Rattle.theory.specs.Combination.{node, L, mix, mixLists}
 
 module _ (F : Field) where
@@ -29,19 +29,10 @@ module _ (F : Field) where
       → getD (mixLists F size l lists a) b 𝟘 ≡ mix F l (λ i. getD (lists i) b 𝟘) a
   getD-mixLists size l lists a b h = getD-build size (λ b. mix F l (λ i. getD (lists i) b 𝟘) a) b 𝟘 h
 
-  pub mixLists-cong : (size l : ℕ) (s t : ℕ → List K) (a : K) → ((i : ℕ) → i < l → s i ≡ t i) → mixLists F size l s a ≡ mixLists F size l t a
-  mixLists-cong size l s t a h = build-cong size (λ b. mix F l (λ i. getD (s i) b 𝟘) a) (λ b. mix F l (λ i. getD (t i) b 𝟘) a)
-      (λ b p. mix-cong l (λ i. getD (s i) b 𝟘) (λ i. getD (t i) b 𝟘) a (λ i q. ap (λ (u : List K). getD u b 𝟘) (h i q)))
-
   module _ (size l : ℕ) (lists : ℕ → List K) (sized : (i : ℕ) → i < l → length (lists i) ≡ size) where
     -- The value at x of the combined lists is the combination of their values at x.
     pub valueAt-mixLists : (a x : K) → valueAt R (mixLists F size l lists a) x ≡ mix F l (λ i. valueAt R (lists i) x) a
     valueAt-mixLists a x = valueAt-linear R size l (λ i. L F l i a) lists sized x
-
-    -- The same of their polynomials.
-    pub eval-mixLists : (a x : K) → evalPoly R (mixLists F size l lists a) x ≡ mix F l (λ i. evalPoly R (lists i) x) a
-    eval-mixLists a x = sym (valueAt-evalPoly R (mixLists F size l lists a) x) ∙ valueAt-mixLists a x
-        ∙ mix-cong l (λ i. valueAt R (lists i) x) (λ i. evalPoly R (lists i) x) a (λ i h. valueAt-evalPoly R (lists i) x)
 
     -- And of their codewords, at each position.
     pub codeword-mixLists : (a : K) (points : List K) (q : ℕ) → q < length points

@@ -64,8 +64,8 @@ module _ (F : Field) where
         ∙ own-leads H C code-laws v (positionAt s q) (inside q hq)
 
     -- What is so for the items and for the new one is so for all.
-    every : (P : ℕ → Type 0) → ((i : ℕ) → i < length items → P i) → P (length items) → (i : ℕ) → i < suc (length items) → P i
-    every P old new i h = go (decLt i (length items))
+    each-index : (P : ℕ → Type 0) → ((i : ℕ) → i < length items → P i) → P (length items) → (i : ℕ) → i < suc (length items) → P i
+    each-index P old new i h = go (decLt i (length items))
       where
         go : Dec (i < length items) → P i
         go (yes l) = old i l
@@ -85,14 +85,14 @@ module _ (F : Field) where
       item-r = shaped .item-r;
       item-x = shaped .item-x;
       coefficients = is-quotient .coefficients;
-      siblings = λ q hq. every (λ i. length (openingAt F items s q i .siblings) ≡ C .depth)
+      siblings = λ q hq. each-index (λ i. length (openingAt F items s q i .siblings) ≡ C .depth)
           (λ i hi. own-siblings q i (ws i) (own q hq i hi)) (own-siblings q (length items) w (own-new q hq));
       witness = length-mixLists F (C .k) (length items) ws a;
       inside = inside;
       new-r = ap (λ (t : Item K). t .r) new-item ∙ ap (newR F m items) (sym at-challenge);
       new-x = ap (λ (t : Item K). t .x) new-item ∙ ap (newX F n items) (sym at-challenge);
       new-e = ap (λ (t : Item K). t .e) new-item ∙ ap (newE F items quotient) (sym at-challenge);
-      leads = λ q hq. every (λ i. leadsTo F items H C s q i ≡ itemOf F items s i .root)
+      leads = λ q hq. each-index (λ i. leadsTo F items H C s q i ≡ itemOf F items s i .root)
           (λ i hi. own-root q i (ws i) hq (own q hq i hi) ∙ sym (matching i hi) ∙ sym (ap (λ (t : Item K). t .root) (itemOf-item F items s i hi)))
           (own-root q (length items) w hq (own-new q hq) ∙ sym (ap (λ (t : Item K). t .root) (itemOf-new F items s ∙ new-item)));
       combines = λ q hq. mixed q hq ∙ ap (mix F (length items) (λ i. valueAt F items s q i)) (sym at-challenge);

@@ -3,10 +3,12 @@ pub mod CheckLaws
 pub mod CombinationLaws
 pub mod Degree
 pub mod QuotientTheorem
-pub mod QuotientAtP
+pub mod QuotientStated
 pub mod ItemLaws
 pub mod HonestFold
 pub mod InstanceLaws
+pub mod FpLaws
+pub mod Passed
 pub mod Challenges
 pub mod Parts
 pub mod ElementBytes

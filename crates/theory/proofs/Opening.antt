@@ -7,26 +7,25 @@ use borrow.Author.Tests.{eq-eqb, eqb-true}
 use lib.ListN.{length}
 use Rattle.numbers.specs.Numbers.{numbers}
 use Rattle.numbers.proofs.Bytes.{length-numbers}
-use Rattle.field.specs.BabyBear.{babyBear, F}
-use Rattle.tree.specs.Layout.{openingSize}
+use Rattle.numbers.proofs.Tests.{and-left, and-right, _&_}
 use Rattle.tree.proofs.Completeness.{path-length}
 use Rattle.tree.proofs.ReadBack.{path-long}
 use Rattle.code.specs.Points.{isWitnessCount, depth}
 use Rattle.theory.specs.Items.{leaves}
-use Rattle.theory.specs.Instance.{sha, codewordOf}
-use Rattle.theory.specs.Buffers.{elements}
+use Rattle.theory.specs.Instance.{Instance, codewordOf}
+use Rattle.theory.specs.Buffers.{elements, openingSize}
 use Rattle.theory.specs.Sizes.{positionCountFits, hasLength, elementsBelow}
 use Rattle.theory.specs.Calls.{openingOf, openingsOf, openChecks, «open»}
 use Rattle.theory.specs.Statements.{PermittedPositions}
-use Rattle.theory.proofs.CheckLaws.{and-left, and-right, _&_, passed-answer, written-accepted}
-use Rattle.theory.proofs.InstanceLaws.{sha-laws}
+use Rattle.theory.proofs.CheckLaws.{passed-answer, written-accepted}
+use Rattle.theory.proofs.InstanceLaws.{InstanceLaws}
 use Rattle.theory.proofs.OpeningBytes.{Siblings}
 
 -- An opening has as many siblings as the tree is deep, of 32 bytes each.
-pub opening-siblings : (k : ℕ) (w : List F) (p : ℕ) → Siblings (depth k) (openingOf k w p)
-opening-siblings k w p = record {
-  count = path-length (sha .digest) (leaves babyBear sha (codewordOf k w)) 0 (depth k) p;
-  long = path-long (sha .digest) (sha-laws .digest-length) (leaves babyBear sha (codewordOf k w)) 0 (depth k) p;
+pub opening-siblings : (I : Instance) → InstanceLaws I → (k : ℕ) (w : List (I .field .ring .carrier)) (p : ℕ) → Siblings (depth k) (openingOf I k w p)
+opening-siblings I laws k w p = record {
+  count = path-length (I .hash .digest) (leaves (I .field) (I .hash) (codewordOf I k w)) 0 (depth k) p;
+  long = path-long (I .hash .digest) (laws .hash-laws .digest-length) (leaves (I .field) (I .hash) (codewordOf I k w)) 0 (depth k) p;
 }
 
 module _ {k t : ℕ} {positions : List ℕ} (permitted : PermittedPositions k t positions) where
@@ -43,13 +42,13 @@ module _ {k t : ℕ} {positions : List ℕ} (permitted : PermittedPositions k t 
 
   -- ---- the call
 
-  module _ (w openings : List ℕ) (counted : isWitnessCount k ≡ true) (w-size : length w ≡ 4 * k) (w-below : elementsBelow w ≡ true)
-      (openings-size : length openings ≡ t * openingSize (depth k)) where
-    pub opening-answers : «open» k t w positions openings .answer ≡ 0
+  module _ (I : Instance) (w openings : List ℕ) (counted : isWitnessCount k ≡ true) (w-size : length w ≡ I .format .size k) (w-below : elementsBelow w ≡ true)
+      (openings-fit : hasLength openings (t * openingSize I (depth k)) ≡ true) where
+    pub opening-answers : «open» I k t w positions openings .answer ≡ 0
     unfolding «open»
-    opening-answers = passed-answer (openChecks k t w positions openings)
-        (counted & position-count-fits & eq-eqb _ _ w-size & positions-fit & eq-eqb _ _ openings-size, (w-below, (permitted .check6, tt)))
+    opening-answers = passed-answer (openChecks I k t w positions openings)
+        (counted & position-count-fits & eq-eqb _ _ w-size & positions-fit & openings-fit, (w-below, (permitted .check6, tt)))
 
-    pub wrote-openings : «open» k t w positions openings .openings ≡ openingsOf k t (elements k w) (numbers positions)
+    pub wrote-openings : «open» I k t w positions openings .openings ≡ openingsOf I k t (elements I k w) (numbers positions)
     unfolding «open»
     wrote-openings = written-accepted _ openings opening-answers

@@ -17,6 +17,10 @@ length-part s at n h = simp (length-take, length-drop) (omega arith)
 pub part-whole : (s : List ℕ) (n : ℕ) → length s ≡ n → part s 0 n ≡ s
 part-whole s n e = take-all n s (omega arith)
 
+-- So is part 0 of one part.
+pub first-part : (s : List ℕ) (n : ℕ) → length s ≡ n → part s (0 * n) n ≡ s
+first-part s n e = ap (λ (at : ℕ). part s at n) (zero-mul n) ∙ part-whole s n e
+
 pub part-part : (s : List ℕ) (at size b n : ℕ) → b + n ≤ size → part (part s at size) b n ≡ part s (at + b) n
 part-part s at size b n h =
     ap (λ (k : ℕ). take n (drop b (take k (drop at s)))) grouped

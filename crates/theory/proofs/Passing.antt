@@ -9,7 +9,7 @@ use Rattle.code.specs.Codeword.{codeword}
 use Rattle.theory.specs.R1cs.{Circuit}
 use Rattle.theory.specs.Items.{Hash, Code, Item, Holds, Matches}
 use Rattle.theory.specs.Combination.{itemAt, mix, newR, newX, newE, quotientSize}
-use Rattle.theory.specs.Folds.{Shown, Fold, positionCount, positionAt, itemOf, openingAt, valueAt, Shows, leadsTo}
+use Rattle.theory.specs.Folds.{Fold, positionCount, positionAt, itemOf, openingAt, valueAt, Shows, leadsTo}
 
 -- What the theorems ask of a hash: digests of 32 bytes, and a leaf's data that tells its values apart.
 pub record HashLaws (K : Type 0) (H : Hash K) : Type 0 where

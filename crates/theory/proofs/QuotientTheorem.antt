@@ -20,7 +20,7 @@ use Rattle.algebra.proofs.VanishingLaws.{vanishing-nonzero, PolyFn-multiple}
 use Rattle.algebra.proofs.FoldLaws.{fold-quotient, fold-values}
 use Rattle.theory.specs.R1cs.{Circuit, value}
 use Rattle.theory.specs.Items.{Item}
-use Rattle.theory.specs.Combination.{node, Z, itemAt, newW, mixE, newE, quotientSize, Shaped, combinedValue, IsQuotient, AllHold, beside, quotientOf}
+use Rattle.theory.specs.Combination.{node, Z, itemAt, newW, mixE, newE, quotientSize, Shaped, combinedValue, IsQuotient, AllHold, samples, quotientOf}
 use Rattle.theory.proofs.CombinationLaws.{mixLists-at, PolyFn-mix}
 use Rattle.theory.proofs.Degree.{PolyFn-combinedValue}
 
@@ -81,46 +81,38 @@ module _ (F : Field) (M : Circuit (F .ring .carrier)) (m n k : ℕ) (items : Lis
       quotient-holds q is i h = sym (combinedValue-at i h) ∙ fold-values F l (node F) different (λ j. itemAt F items j .e) q (is .identity) i h
 
   -- The values that folding interpolates.
-  abbrev valueBeside : K → K
-  valueBeside a = (combinedValue F M m n k items witnesses a ⊕ ⊝ mixE F items a) ⊗ inv (Z F l a)
+  abbrev quotientAt : K → K
+  quotientAt a = (combinedValue F M m n k items witnesses a ⊕ ⊝ mixE F items a) ⊗ inv (Z F l a)
 
-  abbrev besides : List K
-  besides = beside F M m n k items witnesses
+  abbrev points : List K
+  points = samples F M m n k items witnesses
 
-  length-values : length (map valueBeside besides) ≡ length besides
-  length-values = length-map besides valueBeside
+  length-values : length (map quotientAt points) ≡ length points
+  length-values = length-map points quotientAt
 
-  -- The quotient that folding writes has as many coefficients as a quotient.
-  pub length-quotientOf : length (quotientOf F M m n k items witnesses) ≡ quotientSize m (length items)
-  unfolding quotientOf
-  length-quotientOf = length-interpolate F besides (map valueBeside besides) length-values ∙ length-build (quotientSize m l) (λ i. node F (l + i))
-
-  -- Where the field has as many elements beside the nodes, a quotient is the one that folding writes.
+  -- Where the field has as many elements outside the nodes, a quotient is the one that folding writes.
   module _ (apart : Differ (length items + quotientSize m (length items)) (node F)) where
-    distinct-beside : Distinct besides
-    distinct-beside = distinct-differ (quotientSize m l) (λ i. node F (l + i)) (λ i j p q. apart (l + i) (l + j) (omega arith) (omega arith))
+    samples-distinct : Distinct points
+    samples-distinct = distinct-differ (quotientSize m l) (λ i. node F (l + i)) (λ i j p q. apart (l + i) (l + j) (omega arith) (omega arith))
 
-    Z-beside : All (λ a. Z F l a ≢ 𝟘) besides
-    Z-beside = All-build (λ a. Z F l a ≢ 𝟘) (quotientSize m l) (λ i. node F (l + i))
+    samples-Z : All (λ a. Z F l a ≢ 𝟘) points
+    samples-Z = All-build (λ a. Z F l a ≢ 𝟘) (quotientSize m l) (λ i. node F (l + i))
         (λ i h. vanishing-nonzero F (build l (node F)) (node F (l + i))
         (All-build (λ a. node F (l + i) ≢ a) l (node F) (λ j p e. apart j (l + i) (omega arith) (omega arith) (sym e))))
 
     pub quotient-is : (q : List K) → IsQuotient F M m n k items witnesses q → q ≡ quotientOf F M m n k items witnesses
     unfolding quotientOf
-    quotient-is q is = interpolation-unique F besides q (interpolate F besides (map valueBeside besides)) distinct-beside
+    quotient-is q is = interpolation-unique F points q (interpolate F points (map quotientAt points)) samples-distinct
         (is .coefficients ∙ sym (length-build (quotientSize m l) (λ i. node F (l + i))))
-        (length-interpolate F besides (map valueBeside besides) length-values)
-        (map-agree (evalPoly R q) valueBeside besides (λ a h. at a (All-member (λ a. Z F l a ≢ 𝟘) besides Z-beside h))
-        ∙ sym (interpolate-values F besides (map valueBeside besides) distinct-beside length-values))
+        (length-interpolate F points (map quotientAt points) length-values)
+        (map-agree (evalPoly R q) quotientAt points (λ a h. at a (All-member (λ a. Z F l a ≢ 𝟘) points samples-Z h))
+        ∙ sym (interpolate-values F points (map quotientAt points) samples-distinct length-values))
       where
         -- (value - sum of L_i × e_i) / Z is the quotient's value.
-        at : (a : K) → Z F l a ≢ 𝟘 → evalPoly R q a ≡ valueBeside a
+        at : (a : K) → Z F l a ≢ 𝟘 → evalPoly R q a ≡ quotientAt a
         at a nonzero = ring-from R (evalPoly R q a ∷ combinedValue F M m n k items witnesses a ∷ mixE F items a ∷ Z F l a ∷ inv (Z F l a) ∷ [])
             x₀ ((x₁ :- x₂) :* x₄) ((:- x₄, x₁, x₂ :+ x₃ :* x₀) ∷ (:- x₀, x₃ :* x₄, num 1) ∷ [])
             (is .identity a, (mul-inv (Z F l a) nonzero, tt)) tt
-
-    pub quotient-one-only : (q s : List K) → IsQuotient F M m n k items witnesses q → IsQuotient F M m n k items witnesses s → q ≡ s
-    quotient-one-only q s is-q is-s = quotient-is q is-q ∙ sym (quotient-is s is-s)
 
     -- If every item holds, folding writes a quotient.
     pub quotient-written : Shaped F m n k items witnesses → AllHold F M m n k items witnesses

@@ -1,19 +1,16 @@
--- The laws of selections: members that pass a test, numbers among others, and the different numbers of a list.
-use mathlib.Core.Path.{_≡_, refl, sym, subst}
+-- The laws of selections: members that pass a test, members by a test of equality, and the different members of a list.
+use mathlib.Core.Path.{_≡_, refl, sym, ap, subst, _∙_}
 use mathlib.Core.Logic.{_≢_, ⊎-elim}
 use mathlib.Core.Bool.{Bool, true, false, not, _||_, false≢true}
-use mathlib.Core.List.{List, [], _∷_, map, List·Memᴰ, List·Memᴰ·head, List·Memᴰ·tail, List·Memᴰ·not-nil, List·Memᴰ·cases-cons}
+use mathlib.Core.List.{List, [], _∷_, List·Memᴰ, List·Memᴰ·head, List·Memᴰ·tail, List·Memᴰ·not-nil, List·Memᴰ·cases-cons}
 use Prim.Native.Nat.{ℕ, _<_}
 use native.Mathlib.Omega.{arith}
-use borrow.Author.Tests.{eqb-true, eqb-false}
+use borrow.Author.Tests.{eqb-true}
 use lib.Dec.{eqb}
 use lib.ListN.{length}
 use Rattle.algebra.specs.Lists.{All, Distinct}
-use Rattle.algebra.proofs.ListLaws.{distinct-map}
-use Rattle.field.specs.BabyBear.{p, ofℕ}
-use Rattle.field.proofs.Laws.{ofℕ-inj}
+use Rattle.numbers.proofs.Tests.{and-left, and-right}
 use Rattle.theory.specs.Selection.{keepIf, select, among, allAmong, once}
-use Rattle.theory.proofs.CheckLaws.{and-left, and-right}
 
 -- ---- the members that pass a test
 
@@ -32,46 +29,44 @@ pub some-member : {A : Type 0} (l : List A) (n : ℕ) → n < length l → (a : 
 some-member [] n h = absurd (omega arith)
 some-member (a ∷ l) n h = (a, List·Memᴰ·head refl)
 
--- ---- numbers among others
+-- ---- by a test of equality: members of a list, and its different members
 
-among-member : (a : ℕ) (l : List ℕ) → among a l ≡ true → List·Memᴰ a l
-among-member a [] h = absurd (false≢true h)
-among-member a (b ∷ l) h = go (eqb a b) refl (among-member a l) h
+module _ {A : Type 0} (same : A → A → Bool) (equal : (a b : A) → same a b ≡ true → a ≡ b) where
+  among-member : (a : A) (l : List A) → among same a l ≡ true → List·Memᴰ a l
+  among-member a [] h = absurd (false≢true h)
+  among-member a (b ∷ l) h = go (same a b) refl (among-member a l) h
+    where
+      go : (t : Bool) → same a b ≡ t → (among same a l ≡ true → List·Memᴰ a l) → t || among same a l ≡ true → List·Memᴰ a (b ∷ l)
+      go true e ih s = List·Memᴰ·head (equal a b e)
+      go false e ih s = List·Memᴰ·tail (ih s)
+
+module _ {A : Type 0} (same : A → A → Bool) (reflects : (a : A) → same a a ≡ true) where
+  absent : (a : A) (l : List A) → among same a l ≡ false → All (λ b. b ≢ a) l
+  absent a [] h = tt
+  absent a (b ∷ l) h = go (same a b) refl (absent a l) h
+    where
+      go : (t : Bool) → same a b ≡ t → (among same a l ≡ false → All (λ b. b ≢ a) l) → t || among same a l ≡ false → (b ≢ a) × All (λ b. b ≢ a) l
+      go true e ih s = absurd (false≢true (sym s))
+      go false e ih s = ((λ q. false≢true (sym e ∙ ap (same a) q ∙ reflects a)), ih s)
+
+  pub once-distinct : (l : List A) → Distinct (once same l)
+  once-distinct [] = tt
+  once-distinct (a ∷ l) = go (among same a (once same l)) refl (once-distinct l)
+    where
+      go : (t : Bool) → among same a (once same l) ≡ t → Distinct (once same l) → Distinct (keepIf (not t) a (once same l))
+      go true e ih = ih
+      go false e ih = (absent a (once same l) e, ih)
+
+pub once-member : {A : Type 0} (same : A → A → Bool) (l : List A) (a : A) → List·Memᴰ a (once same l) → List·Memᴰ a l
+once-member same [] a h = h
+once-member same (b ∷ l) a h = go (among same b (once same l)) (once-member same l a) h
   where
-    go : (t : Bool) → eqb a b ≡ t → (among a l ≡ true → List·Memᴰ a l) → t || among a l ≡ true → List·Memᴰ a (b ∷ l)
-    go true e ih s = List·Memᴰ·head (eqb-true a b e)
-    go false e ih s = List·Memᴰ·tail (ih s)
-
-pub all-among : (ps l : List ℕ) → allAmong ps l ≡ true → All (λ a. List·Memᴰ a l) ps
-all-among [] l h = tt
-all-among (a ∷ ps) l h = (among-member a l (and-left (among a l) (allAmong ps l) h), all-among ps l (and-right (among a l) (allAmong ps l) h))
-
--- ---- the different numbers of a list
-
-absent : (a : ℕ) (l : List ℕ) → among a l ≡ false → All (λ b. b ≢ a) l
-absent a [] h = tt
-absent a (b ∷ l) h = go (eqb a b) refl (absent a l) h
-  where
-    go : (t : Bool) → eqb a b ≡ t → (among a l ≡ false → All (λ b. b ≢ a) l) → t || among a l ≡ false → (b ≢ a) × All (λ b. b ≢ a) l
-    go true e ih s = absurd (false≢true (sym s))
-    go false e ih s = ((λ q. eqb-false a b e (sym q)), ih s)
-
-pub once-distinct : (l : List ℕ) → Distinct (once l)
-once-distinct [] = tt
-once-distinct (a ∷ l) = go (among a (once l)) refl (once-distinct l)
-  where
-    go : (t : Bool) → among a (once l) ≡ t → Distinct (once l) → Distinct (keepIf (not t) a (once l))
-    go true e ih = ih
-    go false e ih = (absent a (once l) e, ih)
-
-pub once-member : (l : List ℕ) (a : ℕ) → List·Memᴰ a (once l) → List·Memᴰ a l
-once-member [] a h = h
-once-member (b ∷ l) a h = go (among b (once l)) (once-member l a) h
-  where
-    go : (t : Bool) → (List·Memᴰ a (once l) → List·Memᴰ a l) → List·Memᴰ a (keepIf (not t) b (once l)) → List·Memᴰ a (b ∷ l)
+    go : (t : Bool) → (List·Memᴰ a (once same l) → List·Memᴰ a l) → List·Memᴰ a (keepIf (not t) b (once same l)) → List·Memᴰ a (b ∷ l)
     go true ih s = List·Memᴰ·tail (ih s)
     go false ih s = ⊎-elim (λ (e : a ≡ b). List·Memᴰ·head e) (λ r. List·Memᴰ·tail (ih r)) (List·Memᴰ·cases-cons s)
 
--- Different numbers below p are different elements.
-pub elements-distinct : (l : List ℕ) → All (λ a. a < p) l → Distinct l → Distinct (map ofℕ l)
-elements-distinct = distinct-map {P = λ a. a < p} ofℕ (λ a b ha hb e. ofℕ-inj ha hb e)
+-- ---- numbers
+
+pub all-among : (ps l : List ℕ) → allAmong ps l ≡ true → All (λ a. List·Memᴰ a l) ps
+all-among [] l h = tt
+all-among (a ∷ ps) l h = (among-member eqb eqb-true a l (and-left (among eqb a l) (allAmong ps l) h), all-among ps l (and-right (among eqb a l) (allAmong ps l) h))

@@ -8,7 +8,7 @@ use Rattle.field.specs.BabyBear.{babyBear, R, F, val, ofℕ, 𝟘, 𝟙}
 use Rattle.theory.specs.R1cs.{Entry, Circuit, weight, value}
 use Rattle.theory.specs.Items.{Item}
 use Rattle.theory.specs.Combination.{L, newR, newX, newW, newE, combinedValue, quotientOf}
-use Rattle.theory.specs.Instance.{codewordOf}
+use Rattle.theory.specs.Fp.{codewordOf}
 
 -- A case: its number in the paper, the numbers worked out, and those that the paper says.
 pub record Case : Type 0 where

@@ -30,8 +30,3 @@ written (suc n) result before = before
 unfoldable pub every : ℕ → (ℕ → Bool) → Bool
 every zero f = true
 every (suc n) f = every n f && f n
-
--- The answer of a decision.
-abbrev pub decided : {P : Type 0} → Dec P → Bool
-decided (yes p) = true
-decided (no h) = false

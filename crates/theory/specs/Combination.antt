@@ -89,10 +89,10 @@ module _ (F : Field) where
     abbrev pub AllHold : Type 0
     AllHold = (i : ℕ) → i < length items → Holds F M (itemAt items i) (witnesses i)
 
-    -- The quotient that is written: the coefficients of the polynomial that takes the value
-    -- (value - sum of L_i × e_i) / Z at the first numbers beside the nodes, as many as it has coefficients.
-    abbrev pub beside : List K
-    beside = build (quotientSize m (length items)) (λ i. node (length items + i))
+    -- The points that the quotient is interpolated at: the first numbers outside the nodes, as many as it has coefficients.
+    abbrev pub samples : List K
+    samples = build (quotientSize m (length items)) (λ i. node (length items + i))
 
+    -- The quotient that is written: the coefficients of the polynomial that takes the value (value - sum of L_i × e_i) / Z at each of them.
     unfoldable pub quotientOf : List K
-    quotientOf = interpolate F beside (map (λ a. (combinedValue a ⊕ ⊝ mixE items a) ⊗ inv (Z (length items) a)) beside)
+    quotientOf = interpolate F samples (map (λ a. (combinedValue a ⊕ ⊝ mixE items a) ⊗ inv (Z (length items) a)) samples)

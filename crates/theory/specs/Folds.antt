@@ -69,18 +69,18 @@ module _ (F : Field) where
       abbrev pub leafAt : Shown K → ℕ → ℕ → List ℕ
       leafAt s q i = H .entry (positionAt s q) (valueAt s q i)
 
-      -- Where that opening leads, and the strings hashed for it: the leaf and each inner node on the way to the root.
+      -- Where that opening leads, and the strings hashed for it: the leaf and each inner node up to the root.
       abbrev pub leadsTo : Shown K → ℕ → ℕ → List ℕ
       leadsTo s q i = openingRoot (H .digest) (leafAt s q i) (positionAt s q) (openingAt s q i .siblings)
 
-      abbrev pub way : Shown K → ℕ → ℕ → List (List ℕ)
-      way s q i = openingStrings (H .digest) (leafAt s q i) (positionAt s q) (openingAt s q i .siblings)
+      abbrev pub openingStringsOf : Shown K → ℕ → ℕ → List (List ℕ)
+      openingStringsOf s q i = openingStrings (H .digest) (leafAt s q i) (positionAt s q) (openingAt s q i .siblings)
 
       -- The byte strings hashed for a fold: those of each of its openings;
       -- and all leaves and inner nodes of the tree over its witness's codeword.
       abbrev pub hashed : Fold K → List (List ℕ)
       hashed f =
-          concatTo (positionCount (f .shown)) (λ q. concatTo (suc (length items)) (λ i. way (f .shown) q i))
+          concatTo (positionCount (f .shown)) (λ q. concatTo (suc (length items)) (λ i. openingStringsOf (f .shown) q i))
           ++ treeStrings (H .digest) (C .depth) (leaves F H (codeword (F .ring) (C .points) (f .witness)))
 
       -- The byte strings hashed for the folds of a list.

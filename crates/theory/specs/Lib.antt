@@ -9,4 +9,5 @@ pub mod Sizes
 pub mod Calls
 pub mod Selection
 pub mod Statements
+pub mod Fp
 pub mod Cases

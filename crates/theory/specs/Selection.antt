@@ -1,4 +1,4 @@
--- The members of a list that pass a test, and the numbers of a list, each once.
+-- The members of a list that pass a test, and the different members of a list.
 use mathlib.Core.Bool.{Bool, true, false, not, _&&_, _||_}
 use mathlib.Core.List.{List, [], _∷_}
 use Prim.Native.Nat.{ℕ}
@@ -14,16 +14,17 @@ abbrev pub select : {A : Type 0} → (A → Bool) → List A → List A
 select f [] = []
 select f (a ∷ l) = keepIf (f a) a (select f l)
 
--- Whether the number is in the list, and whether each of the numbers ps is.
-abbrev pub among : ℕ → List ℕ → Bool
-among a [] = false
-among a (b ∷ l) = eqb a b || among a l
+-- By a test of equality: whether a is in the list; and the different members of a list, each once.
+module _ {A : Type 0} (same : A → A → Bool) where
+  abbrev pub among : A → List A → Bool
+  among a [] = false
+  among a (b ∷ l) = same a b || among a l
 
+  abbrev pub once : List A → List A
+  once [] = []
+  once (a ∷ l) = keepIf (not (among a (once l))) a (once l)
+
+-- Whether each of the numbers ps is in the list.
 abbrev pub allAmong : List ℕ → List ℕ → Bool
 allAmong [] l = true
-allAmong (a ∷ ps) l = among a l && allAmong ps l
-
--- The different numbers of a list.
-abbrev pub once : List ℕ → List ℕ
-once [] = []
-once (a ∷ l) = keepIf (not (among a (once l))) a (once l)
+allAmong (a ∷ ps) l = among eqb a l && allAmong ps l

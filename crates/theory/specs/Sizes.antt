@@ -6,10 +6,10 @@ use lib.ListN.{length}
 use lib.Dec.{eqb, leb, ltb}
 use Rattle.numbers.specs.Numbers.{numbers, allBelow}
 use Rattle.field.specs.BabyBear.{p}
-use Rattle.tree.specs.Layout.{openingSize, openedValue}
 use Rattle.code.specs.Points.{isWitnessCount}
 use Rattle.theory.specs.Checks.{every}
-use Rattle.theory.specs.Buffers.{numberAt, entryCount, rowAt, columnAt, coefficientAt, itemSize, itemPart}
+use Rattle.theory.specs.Instance.{Instance}
+use Rattle.theory.specs.Buffers.{entryCount, rowAt, columnAt, entryValueAt, itemPart, openedPart}
 
 -- ---- check 2: sizes, counts and lengths
 
@@ -32,26 +32,29 @@ circuitFits a b c = matrixFits a && matrixFits b && matrixFits c
 abbrev pub hasLength : List ℕ → ℕ → Bool
 hasLength b size = eqb (length b) size
 
--- ---- check 3: elements, coefficients and opened values are below p
+-- ---- check 3: the numbers of elements (coefficients of a quotient and opened values too) are below p
 
 abbrev pub elementsBelow : List ℕ → Bool
 elementsBelow b = allBelow p (numbers b)
 
 abbrev pub matrixBelow : List ℕ → Bool
-matrixBelow b = every (entryCount b) (λ i. ltb (coefficientAt b i) p)
+matrixBelow b = every (entryCount b) (λ i. ltb (entryValueAt b i) p)
 
 abbrev pub circuitBelow : List ℕ → List ℕ → List ℕ → Bool
 circuitBelow a b c = matrixBelow a && matrixBelow b && matrixBelow c
 
--- The numbers of an item: e, r and x.
-abbrev pub itemBelow : ℕ → ℕ → List ℕ → Bool
-itemBelow m n b = every (1 + m + n) (λ j. ltb (numberAt b j) p)
+module _ (I : Instance) where
+  open Instance I using (format as E)
 
-abbrev pub itemsBelow : ℕ → ℕ → ℕ → List ℕ → Bool
-itemsBelow m n l items = every l (λ i. itemBelow m n (itemPart m n items i))
+  -- The elements of an item: e, r and x.
+  abbrev pub itemBelow : ℕ → ℕ → List ℕ → Bool
+  itemBelow m n b = every (1 + m + n) (E .below b)
 
-abbrev pub openedBelow : ℕ → ℕ → List ℕ → Bool
-openedBelow depth count openings = every count (λ j. ltb (openedValue openings (j * openingSize depth)) p)
+  abbrev pub itemsBelow : ℕ → ℕ → ℕ → List ℕ → Bool
+  itemsBelow m n l items = every l (λ i. itemBelow m n (itemPart I m n items i))
+
+  abbrev pub openedBelow : ℕ → ℕ → List ℕ → Bool
+  openedBelow depth count openings = every count (λ j. E .below (openedPart I depth openings j) 0)
 
 -- ---- check 4: entries are inside rows and columns, and strictly ascending by row and then column
 
@@ -67,10 +70,7 @@ matrixInOrder m n k b = every (entryCount b) (inside m n k b) && every (entryCou
 abbrev pub circuitInOrder : ℕ → ℕ → ℕ → List ℕ → List ℕ → List ℕ → Bool
 circuitInOrder m n k a b c = matrixInOrder m n k a && matrixInOrder m n k b && matrixInOrder m n k c
 
--- ---- checks 5 and 6: the challenge and the positions
-
-abbrev pub challengeFits : ℕ → ℕ → Bool
-challengeFits l a = leb l a && ltb a p
+-- ---- check 6: the positions
 
 abbrev pub positionsBelow : ℕ → List ℕ → Bool
 positionsBelow k positions = allBelow (4 * k) (numbers positions)

@@ -10,7 +10,7 @@ use lib.ListN.{length, getD, set}
 use lib.Seq.{getD-set-same, getD-set-other}
 use lib.Pow.{pow-pos, pow-mono}
 use Rattle.tree.specs.Merkle.{leafString, nodeString, sibling, subtree, pathFrom, path}
-use Rattle.tree.specs.Heap.{Holds, heapPath}
+use Rattle.tree.specs.Heap.{IsHeap, heapPath}
 use Rattle.tree.proofs.Blocks.{subtree-leaf, subtree-node}
 use Rattle.tree.proofs.Levels.{sibling-below}
 
@@ -70,11 +70,11 @@ module _ (digest : List ℕ → List ℕ) where
           ap (λ (k : ℕ). getD (set nodes n new) k []) q ∙ getD-set-same nodes n new [] fits ∙ e ∙ node-at d es n nodes pos small all j h p f hp q
       go (no q) = getD-set-other nodes n (2 ^ h + p) new [] q ∙ all j h p f hp (omega (arith, q))
 
-  pub above-end : (d : ℕ) (es : List (List ℕ)) (n : ℕ) (nodes : List (List ℕ)) → n ≤ 0 → Above d es n nodes → Holds digest d es nodes
+  pub above-end : (d : ℕ) (es : List (List ℕ)) (n : ℕ) (nodes : List (List ℕ)) → n ≤ 0 → Above d es n nodes → IsHeap digest d es nodes
   above-end d es n nodes h all j k p e hp = all j k p e hp (omega (arith, pow-pos k))
 
   -- ---- reading out
-  heap-path-from : (d : ℕ) (es nodes : List (List ℕ)) → Holds digest d es nodes → (j n p : ℕ) → j + n ≡ d → p < 2 ^ n
+  heap-path-from : (d : ℕ) (es nodes : List (List ℕ)) → IsHeap digest d es nodes → (j n p : ℕ) → j + n ≡ d → p < 2 ^ n
       → heapPath nodes n p ≡ pathFrom digest es j n p
   unfolding heapPath pathFrom
   heap-path-from d es nodes holds j zero p e h = refl
@@ -84,5 +84,5 @@ module _ (digest : List ℕ → List ℕ) where
       (heap-path-from d es nodes holds (suc j) n (p / 2) (suc-add j n ∙ sym (add-suc j n) ∙ e) (omega (arith, two-pow-succ n)))
 
   -- the siblings in the list are the path of the position
-  pub heap-path : (d : ℕ) (es nodes : List (List ℕ)) → Holds digest d es nodes → (i : ℕ) → i < 2 ^ d → heapPath nodes d i ≡ path digest d es i
+  pub heap-path : (d : ℕ) (es nodes : List (List ℕ)) → IsHeap digest d es nodes → (i : ℕ) → i < 2 ^ d → heapPath nodes d i ≡ path digest d es i
   heap-path d es nodes holds i h = heap-path-from d es nodes holds 0 d i (zero-add d) h

@@ -8,8 +8,8 @@ use Rattle.tree.specs.Merkle.{subtree, sibling}
 
 -- the list holds the digests of the tree over 2 ^ d entries: level j is h levels below the root.
 -- What stands at 0 and after the leaves is left free: no path goes by it.
-abbrev pub Holds : (List ℕ → List ℕ) → ℕ → List (List ℕ) → List (List ℕ) → Type 0
-Holds digest d es nodes = (j h p : ℕ) → j + h ≡ d → p < 2 ^ h → getD nodes (2 ^ h + p) [] ≡ subtree digest es j p
+abbrev pub IsHeap : (List ℕ → List ℕ) → ℕ → List (List ℕ) → List (List ℕ) → Type 0
+IsHeap digest d es nodes = (j h p : ℕ) → j + h ≡ d → p < 2 ^ h → getD nodes (2 ^ h + p) [] ≡ subtree digest es j p
 
 -- the siblings from place p upwards, n levels below the root, as the list has them
 unfoldable pub heapPath : List (List ℕ) → ℕ → ℕ → List (List ℕ)

@@ -9,7 +9,7 @@ ghost use Rattle.hash.specs.Sha256.{digest};
 ghost use Rattle.numbers.specs.Numbers.{numbers, bytes4, allBelow};
 ghost use Rattle.tree.specs.Merkle.{leafString, joined, root as rootOf, subtree as subtreeOf, sibling as siblingOf};
 ghost use Rattle.tree.specs.Entry.{entry, entries};
-ghost use Rattle.tree.specs.Heap.{Holds, heapPath};
+ghost use Rattle.tree.specs.Heap.{IsHeap, heapPath};
 ghost use Rattle.tree.specs.Layout.{part, openingSize, openedValue, openedRoot, flat, ownOpening, ownOpenings};
 
 // The digest of the leaf with a value at a position.
@@ -43,7 +43,7 @@ pub fn root(values: &[u32], depth: usize) -> [u8; 32]
 // All digests of the tree over 2 ^ depth values: the root at 1, and the children of n at 2n and 2n + 1.
 fn nodes_of(values: &[u32], depth: usize) -> [[u8; 32]; 512]
     requires { ⌜ (length (now values) ≡ 2 ^ depth) × (depth ≤ 8) ⌝ }
-    ensures { λ r. ⌜ Holds digest depth (entries (now (values .entry))) r ⌝ }
+    ensures { λ r. ⌜ IsHeap digest depth (entries (now (values .entry))) r ⌝ }
 {
     let none = [0u8; 32];
     let mut nodes = [none; 512];
@@ -169,7 +169,7 @@ fn write_opening(
     out: &mut [u8],
     at: usize,
 )
-    requires { ⌜ (length (now values) ≡ 2 ^ depth) × (depth ≤ 8) × (position < 2 ^ depth) × (at + openingSize depth ≤ length (now out)) × Holds digest depth (entries (now values)) (now nodes) ⌝ }
+    requires { ⌜ (length (now values) ≡ 2 ^ depth) × (depth ≤ 8) × (position < 2 ^ depth) × (at + openingSize depth ≤ length (now out)) × IsHeap digest depth (entries (now values)) (now nodes) ⌝ }
     ensures { λ _. ⌜ now (out .exit) ≡ sets (now (out .entry)) at (ownOpening digest depth (now (values .entry)) position) ⌝ }
 {
     write_value(out, at, values[position]);

@@ -1,6 +1,4 @@
 -- A number is a prime if no number up to its square root divides it: trial division, which the checker computes.
--- It stands here because the field of p elements, a definition, holds the proof that p is a prime.
--- Assumes nothing.
 use mathlib.Core.Path.{_≡_, sym, _∙_, ap, subst}
 use mathlib.Core.Bool.{Bool, true, false}
 use Prim.Native.Nat.{ℕ, zero, suc, _+_, _*_, _/_, _%_, _≤_, _<_}
@@ -8,7 +6,7 @@ use native.Mathlib.Nat.{div-add-mod, mul-mod-left, mul-le-mul, mul-zero, mul-one
 use native.Mathlib.Decide.{ℕ-discrete, decLt}
 use native.Mathlib.Omega.{arith}
 use lib.Dec.{T, eqb, eqb-refl}
-use Rattle.field.specs.Modular.{Prime}
+use Rattle.algebra.specs.Prime.{Prime}
 
 -- None of the numbers from 2 to k + 1 divides p.
 abbrev pub clear : ℕ → ℕ → Bool
