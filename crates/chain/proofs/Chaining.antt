@@ -6,13 +6,13 @@ use Prim.Native.Nat.{ℕ, suc}
 use Rattle.algebra.specs.Lists.{build, concatTo}
 use Rattle.code.specs.Points.{depth}
 use Rattle.theory.specs.Checks.{written}
-use Rattle.theory.specs.Buffers.{inOrder}
-use Rattle.theory.specs.Calls.{Folded, Opened, fold, verify, decide}
-use Rattle.theory.specs.Statements.{Honest, PermittedChallenge, PermittedPositions, verifying, deciding}
+use Rattle.theory.specs.Calls.{Folded, Opened}
+use Rattle.theory.specs.Statements.{PermittedPositions, verifying, deciding}
+use Rattle.theory.specs.Fp.{fp, inOrder, foldOutputsFit, fold, verify, decide, Honest, PermittedChallenge}
 use Rattle.theory.proofs.CheckLaws.{written-accepted}
 use Rattle.checks.proofs.Calls.{refused}
 use Rattle.chain.specs.Answers.{firstOf, firstRefusal}
-use Rattle.chain.specs.Chained.{openedSize, openedPart, openInto, openedFits, Chained, chainIf, chain, BuffersFit}
+use Rattle.chain.specs.Chained.{openedSize, openedPart, openInto, openedFits, Chained, chainIf, chain}
 use Rattle.chain.proofs.Refusals.{refusal-append, firstOf-zero, first-refuses, first-passes}
 use Rattle.chain.proofs.HonestChain.{chain-runs, honest-zero}
 
@@ -24,14 +24,14 @@ module _ (m n k l t challenge : ℕ) (a b c items wits positions quotient item w
   abbrev pub Promised : ℕ → List ℕ → List ℕ → List ℕ → List ℕ → List ℕ → Type 0
   Promised r q i w o os =
       (Honest m n k l a b c items wits → PermittedChallenge l challenge → PermittedPositions k t positions
-      → BuffersFit m n k l t quotient item wit opened openings → r ≡ 0)
+      → foldOutputsFit m n k l quotient item wit ≡ true → openedFits k l t opened openings ≡ true → r ≡ 0)
       × ((r ≡ whole .answer)
       × ((q ≡ whole .quotient) × ((i ≡ whole .item) × ((w ≡ whole .wit) × ((o ≡ whole .opened) × (os ≡ whole .openings))))))
 
   module _ (r : ℕ) (q i w o os : List ℕ) (ran : Chained) (is : whole ≡ ran) where
     promised : r ≡ ran .answer → q ≡ ran .quotient → i ≡ ran .item → w ≡ ran .wit → o ≡ ran .opened → os ≡ ran .openings → Promised r q i w o os
     promised er eq ei ew eo es = (
-      λ honest permitted allowed fit. back (λ (x : Chained). x .answer) er ∙ honest-zero m n k l t challenge a b c items wits positions quotient item wit opened openings honest permitted allowed fit,
+      λ honest permitted allowed outputs both. back (λ (x : Chained). x .answer) er ∙ honest-zero m n k l t challenge a b c items wits positions quotient item wit opened openings honest permitted allowed outputs both,
       (
         back (λ (x : Chained). x .answer) er,
         (
@@ -107,7 +107,7 @@ module _ (m n k l t challenge : ℕ) (a b c items wits positions quotient item w
           wrote-openings
           ∙ ap₂ (λ (r : ℕ) (v : List ℕ). written r (inOrder (depth k) t l (λ j. openedWith v j .openings)) openings) (first-passes (sym folds) refl open-answer) wrote-wit
 
-      answer-is : (r : ℕ) → r ≡ firstOf (firstRefusal (answersWith (folded .wit))) (firstRefusal (verifying m n k l t challenge a b c items wits positions quotient item wit (openedPart k t opened) ∷ deciding m n k l t challenge a b c items wits positions quotient item wit (openedPart k t opened) ∷ []))
+      answer-is : (r : ℕ) → r ≡ firstOf (firstRefusal (answersWith (folded .wit))) (firstRefusal (verifying fp m n k l t challenge a b c items wits positions quotient item wit (openedPart k t opened) ∷ deciding fp m n k l t challenge a b c items wits positions quotient item wit (openedPart k t opened) ∷ []))
           → r ≡ ran .answer
       answer-is r e = first-passes (sym folds) refl (e ∙ sym (refusal-append (answersWith (folded .wit)) _))
 
@@ -116,23 +116,23 @@ module _ (m n k l t challenge : ℕ) (a b c items wits positions quotient item w
           promised s q i w o os ran is (answer-is s (first-refuses s _ open-answer h)) wrote-quotient wrote-item wrote-wit opened-all ordered-all
 
       -- The openings answer 0 too, and verifying and deciding r.
-      module _ (opens : s ≡ 0) (r : ℕ) (judged : r ≡ firstOf (verify m n k l t challenge items positions q i os) (decide m n k a b c i w)) where
+      module _ (opens : s ≡ 0) (r : ℕ) (decided-both : r ≡ firstOf (verify m n k l t challenge items positions q i os) (decide m n k a b c i w)) where
         ordered : os ≡ inOrder (depth k) t l (λ j. openedWith (folded .wit) j .openings)
         ordered =
             wrote-openings
             ∙ written-accepted _ openings opens
             ∙ ap (λ (v : List ℕ). inOrder (depth k) t l (λ j. openedWith v j .openings)) wrote-wit
 
-        verified : verify m n k l t challenge items positions q i os ≡ verifying m n k l t challenge a b c items wits positions quotient item wit (openedPart k t opened)
+        verified : verify m n k l t challenge items positions q i os ≡ verifying fp m n k l t challenge a b c items wits positions quotient item wit (openedPart k t opened)
         verified =
             ap₂ (λ (x y : List ℕ). verify m n k l t challenge items positions x y os) wrote-quotient wrote-item
             ∙ ap (verify m n k l t challenge items positions (folded .quotient) (folded .item)) ordered
 
-        decided : decide m n k a b c i w ≡ deciding m n k l t challenge a b c items wits positions quotient item wit (openedPart k t opened)
+        decided : decide m n k a b c i w ≡ deciding fp m n k l t challenge a b c items wits positions quotient item wit (openedPart k t opened)
         decided = ap₂ (decide m n k a b c) wrote-item wrote-wit
 
         pub all-called : Promised r q i w o os
         all-called =
             promised r q i w o os ran is
-            (answer-is r (first-passes open-answer opens (judged ∙ ap₂ firstOf verified (decided ∙ sym (firstOf-zero _)))))
+            (answer-is r (first-passes open-answer opens (decided-both ∙ ap₂ firstOf verified (decided ∙ sym (firstOf-zero _)))))
             wrote-quotient wrote-item wrote-wit opened-all ordered-all

@@ -39,16 +39,16 @@ from-parts (suc n) size f s e h =
 -- ---- a part that is lent and comes back
 
 -- The part of n bytes that is lent.
-pub lent-part : (s : List ℕ) (at n : ℕ) → take (at + n - at) (drop at s) ≡ part s at n
-lent-part s at n = let size : at + n - at ≡ n = omega arith in ap (λ (j : ℕ). take j (drop at s)) size
+pub borrowed-part : (s : List ℕ) (at n : ℕ) → take (at + n - at) (drop at s) ≡ part s at n
+borrowed-part s at n = let size : at + n - at ≡ n = omega arith in ap (λ (j : ℕ). take j (drop at s)) size
 
 -- What comes back stands in its place.
-pub lent-back : (s d x : List ℕ) (at n : ℕ) → x ≡ d → take at s ++ (x ++ drop (at + n - at) (drop at s)) ≡ replaced s at n d
-lent-back s d x at n e = put-back s d x at (at + n - at) n e (omega arith)
+pub borrowed-back : (s d x : List ℕ) (at n : ℕ) → x ≡ d → take at s ++ (x ++ drop (at + n - at) (drop at s)) ≡ replaced s at n d
+borrowed-back s d x at n e = put-back s d x at (at + n - at) n e (omega arith)
 
-pub lent-length : (s x : List ℕ) (at n : ℕ) → at + n ≤ length s → length x ≡ length (take (at + n - at) (drop at s))
+pub borrowed-length : (s x : List ℕ) (at n : ℕ) → at + n ≤ length s → length x ≡ length (take (at + n - at) (drop at s))
     → length (take at s ++ (x ++ drop (at + n - at) (drop at s))) ≡ length s
-lent-length s x at n h e =
+borrowed-length s x at n h e =
     let size : at + n - at ≡ n = omega arith in
     omega (
       arith,
@@ -57,7 +57,7 @@ lent-length s x at n h e =
       length-take-le at s (omega arith),
       length-drop (at + n - at) (drop at s),
       length-drop at s,
-      ap length (lent-part s at n),
+      ap length (borrowed-part s at n),
       length-part s at n h,
     )
 
@@ -71,8 +71,8 @@ module _ (from to : List ℕ) (start at n : ℕ) (h : start + n ≤ length from)
 
   pub part-copied : take (length source) source ++ drop (length source) target ≡ part from start n
   part-copied =
-      copied-over source target (omega (arith, ap length (lent-part to at n), ap length (lent-part from start n), length-part to at n g, length-part from start n h))
-      ∙ lent-part from start n
+      copied-over source target (omega (arith, ap length (borrowed-part to at n), ap length (borrowed-part from start n), length-part to at n g, length-part from start n h))
+      ∙ borrowed-part from start n
 
 -- ---- the parts of a buffer, one after the other
 

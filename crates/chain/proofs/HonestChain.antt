@@ -5,12 +5,12 @@ use mathlib.Core.List.{List}
 use Prim.Native.Nat.{ℕ, suc}
 use borrow.Author.Tests.{eq-eqb}
 use lib.ListN.{length}
-use Rattle.theory.specs.Statements.{Honest, PermittedChallenge, PermittedPositions, OutputsFit, chainAnswers}
-use Rattle.theory.proofs.CheckLaws.{_&_}
+use Rattle.theory.specs.Statements.{PermittedPositions, OutputsFit}
+use Rattle.theory.specs.Fp.{fp, foldOutputsFit, Honest, PermittedChallenge, chainAnswers}
 use Rattle.theory.proofs.Parts.{length-part, part-within}
-use Rattle.theory.proofs.HonestList.{witness-count, sizes-fit, count-fits}
 use Rattle.theory.proofs.FirstStatement.{first-statement}
-use Rattle.chain.specs.Chained.{openedSize, openedPart, openedFits, Chained, chainIf, chain, BuffersFit}
+use Rattle.chain.specs.Chained.{openedSize, openedPart, openedFits, Chained, chainIf, chain}
+use Rattle.chain.proofs.Lengths.{fitting}
 use Rattle.chain.proofs.Refusals.{refusal-none}
 
 module _ (m n k l t challenge : ℕ) (a b c items wits positions quotient item wit opened openings : List ℕ) where
@@ -21,17 +21,13 @@ module _ (m n k l t challenge : ℕ) (a b c items wits positions quotient item w
   chain-runs h = ap (chainIf m n k l t challenge a b c items wits positions quotient item wit opened openings) h
 
   module _ (honest : Honest m n k l a b c items wits) (permitted : PermittedChallenge l challenge) (allowed : PermittedPositions k t positions)
-      (fit : BuffersFit m n k l t quotient item wit opened openings) where
-    outputs : OutputsFit m n k l t quotient item wit (openedPart k t opened)
+      (outputs-fit : foldOutputsFit m n k l quotient item wit ≡ true) (both-fit : openedFits k l t opened openings ≡ true) where
+    outputs : OutputsFit fp m n k l t quotient item wit (openedPart k t opened)
     outputs = record {
-      quotient-size = fit .quotient-size;
-      item-size = fit .item-size;
-      wit-size = fit .wit-size;
-      openings-size = λ i h. length-part opened _ (openedSize k t) (part-within (suc l) i (openedSize k t) (length opened) h (fit .opened-size));
+      folding = outputs-fit;
+      opening = λ i h. eq-eqb _ _ (length-part opened _ (openedSize k t)
+          (part-within (suc l) i (openedSize k t) (length opened) h (fitting k l t opened openings both-fit .opened-size)));
     }
-
-    both-fit : openedFits k l t opened openings ≡ true
-    both-fit = witness-count m n k (sizes-fit honest) & count-fits honest & eq-eqb _ _ (fit .opened-size) & eq-eqb _ _ (fit .openings-size)
 
     pub honest-zero : chain m n k l t challenge a b c items wits positions quotient item wit opened openings .answer ≡ 0
     honest-zero =

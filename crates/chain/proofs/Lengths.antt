@@ -5,16 +5,17 @@ use mathlib.Core.List.{List, [], _∷_}
 use Prim.Native.Nat.{ℕ, suc, _+_, _*_, _≤_}
 use native.Mathlib.Nat.{mul-le-mul}
 use native.Mathlib.Omega.{arith}
-use borrow.Author.Tests.{eqb-true, leb-true}
-use lib.Dec.{leb}
+use borrow.Author.Tests.{eqb-true}
 use lib.ListN.{length}
+use Rattle.numbers.proofs.Tests.{and-left, each-true}
 use Rattle.tree.specs.Layout.{openingSize}
 use Rattle.code.specs.Points.{isWitnessCount, depth}
 use Rattle.theory.specs.Sizes.{itemCountFits, hasLength}
-use Rattle.theory.specs.Calls.{fold}
-use Rattle.theory.proofs.CheckLaws.{and-right, each-true}
+use Rattle.theory.specs.Calls.{fold as foldOver}
+use Rattle.theory.specs.Fp.{fp, listFits, foldOutputsFit, fold}
+use Rattle.theory.proofs.Passed.{ListFits, list-fits, FoldPasses, fold-passes}
+use Rattle.theory.proofs.HonestList.{few-items}
 use Rattle.encoder.proofs.OpeningLaws.{depth-few}
-use Rattle.prover.proofs.Accepted.{fold-accepted}
 use Rattle.chain.specs.Chained.{openedSize, openedFits}
 
 -- An opening has at most 8 digests.
@@ -34,9 +35,6 @@ module _ (l t size : ℕ) (few : l ≤ 8) (short : t ≤ 4294967295) (small : si
 
   pub all-small : t * (l + 1) * size ≤ 10050223470300
   all-small = mul-le-mul count-small small
-
-pub few-items : (l : ℕ) → itemCountFits l ≡ true → l ≤ 8
-few-items l h = leb-true l 8 (and-right (leb 1 l) (leb l 8) h)
 
 -- The test of the two buffers passes.
 pub record Fitting (k l t : ℕ) (opened openings : List ℕ) : Type 0 where
@@ -60,5 +58,7 @@ fitting k l t opened openings h =
 -- Folding answers 0: the witnesses have their lengths.
 pub wits-size : (m n k l challenge : ℕ) (a b c items wits quotient item wit : List ℕ) → fold m n k l challenge a b c items wits quotient item wit .answer ≡ 0
     → length wits ≡ l * (4 * k)
-unfolding fold
-wits-size m n k l challenge a b c items wits quotient item wit h = fold-accepted m n k l challenge a b c items wits quotient item wit h .0 .0 .wits-size
+unfolding foldOver
+wits-size m n k l challenge a b c items wits quotient item wit h =
+    eqb-true (length wits) (l * (4 * k)) (list-fits fp m n k l a b c items wits
+    (and-left (listFits m n k l a b c items wits) (foldOutputsFit m n k l quotient item wit) (fold-passes fp m n k l a b c items wits challenge quotient item wit h .fits)) .wits-fit)

@@ -8,7 +8,7 @@ use lib.ListN.{length}
 use Rattle.algebra.specs.Lists.{build, concatTo}
 use Rattle.tree.specs.Layout.{part, openingSize}
 use Rattle.code.specs.Points.{depth}
-use Rattle.theory.specs.Buffers.{inOrder}
+use Rattle.theory.specs.Fp.{inOrder}
 use Rattle.theory.specs.Calls.{Opened}
 use Rattle.chain.specs.Answers.{firstRefusal}
 use Rattle.chain.specs.Parts.{piece, Filled}

@@ -10,8 +10,8 @@ use lib.Seq.{getD-at}
 use Rattle.algebra.specs.Lists.{build}
 use Rattle.algebra.proofs.ListLaws.{length-build, getD-build, build-cong}
 use Rattle.tree.specs.Layout.{part}
-use Rattle.theory.specs.Buffers.{witnessPart}
-use Rattle.theory.specs.Calls.{Opened, «open»}
+use Rattle.theory.specs.Calls.{Opened}
+use Rattle.theory.specs.Fp.{witnessPart, «open»}
 use Rattle.chain.specs.Answers.{firstOf, firstRefusal}
 use Rattle.chain.specs.Parts.{replaced, Filled}
 use Rattle.chain.specs.Chained.{openItem, openInto}

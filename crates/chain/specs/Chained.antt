@@ -11,10 +11,9 @@ use Rattle.tree.specs.Layout.{part, openingSize}
 use Rattle.code.specs.Points.{isWitnessCount, depth}
 use Rattle.theory.specs.Combination.{quotientSize}
 use Rattle.theory.specs.Checks.{written}
-use Rattle.theory.specs.Buffers.{itemSize, witnessPart, inOrder}
 use Rattle.theory.specs.Sizes.{itemCountFits, hasLength}
-use Rattle.theory.specs.Calls.{Folded, Opened, «open»}
-use Rattle.theory.specs.Statements.{folding, opening, chainAnswers}
+use Rattle.theory.specs.Calls.{Folded, Opened}
+use Rattle.theory.specs.Fp.{itemSize, witnessPart, inOrder, «open», folding, opening, chainAnswers}
 use Rattle.chain.specs.Answers.{firstRefusal}
 
 -- The bytes of the openings of one witness at t positions, and part i of the buffer `opened`.
@@ -68,11 +67,3 @@ module _ (m n k l t challenge : ℕ) (a b c items wits positions quotient item w
 
   unfoldable pub chain : Chained
   chain = chainIf (openedFits k l t opened openings)
-
--- All the lent buffers have the lengths that the sizes give.
-pub record BuffersFit (m n k l t : ℕ) (quotient item wit opened openings : List ℕ) : Type 0 where
-  pub quotient-size : length quotient ≡ 4 * quotientSize m l
-  pub item-size : length item ≡ itemSize m n
-  pub wit-size : length wit ≡ 4 * k
-  pub opened-size : length opened ≡ suc l * openedSize k t
-  pub openings-size : length openings ≡ t * suc l * openingSize (depth k)

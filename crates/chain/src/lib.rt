@@ -7,12 +7,11 @@ ghost use Rattle.algebra.specs.Lists.{build, concatTo};
 ghost use Rattle.tree.specs.Layout.{openingSize};
 ghost use Rattle.code.specs.Points.{isWitnessCount, depth};
 ghost use Rattle.theory.specs.Checks.{written};
-ghost use Rattle.theory.specs.Buffers.{inOrder};
 ghost use Rattle.theory.specs.Sizes.{hasLength};
-ghost use Rattle.theory.specs.Calls.{verify, decide};
-ghost use Rattle.theory.specs.Statements.{Honest, PermittedChallenge, PermittedPositions};
+ghost use Rattle.theory.specs.Statements.{PermittedPositions};
+ghost use Rattle.theory.specs.Fp.{inOrder, foldOutputsFit, verify, decide, Honest, PermittedChallenge};
 ghost use Rattle.chain.specs.Answers.{firstOf, firstRefusal};
-ghost use Rattle.chain.specs.Chained.{openedSize, openInto, openedFits, chain, BuffersFit};
+ghost use Rattle.chain.specs.Chained.{openedSize, openInto, openedFits, chain};
 
 mod opening;
 mod order;
@@ -73,7 +72,7 @@ fn show(
 }
 
 // Verifies the fold, and decides the new item.
-fn judge(
+fn verify_and_decide(
     m: u32,
     n: u32,
     k: u32,
@@ -131,7 +130,7 @@ pub fn chain(
     opened: &mut [u8],
     openings: &mut [u8],
 ) -> u32
-    ensures honest { λ r. ⌜ (Honest m n k l (now (a .entry)) (now (b .entry)) (now (c .entry)) (now (items .entry)) (now (wits .entry)) → PermittedChallenge l challenge → PermittedPositions k t (now (positions .entry)) → BuffersFit m n k l t (now (quotient .entry)) (now (item .entry)) (now (wit .entry)) (now (opened .entry)) (now (openings .entry)) → r ≡ 0) ⌝ }
+    ensures honest { λ r. ⌜ (Honest m n k l (now (a .entry)) (now (b .entry)) (now (c .entry)) (now (items .entry)) (now (wits .entry)) → PermittedChallenge l challenge → PermittedPositions k t (now (positions .entry)) → foldOutputsFit m n k l (now (quotient .entry)) (now (item .entry)) (now (wit .entry)) ≡ true → openedFits k l t (now (opened .entry)) (now (openings .entry)) ≡ true → r ≡ 0) ⌝ }
     ensures answer { λ r. ⌜ r ≡ chain m n k l t challenge (now (a .entry)) (now (b .entry)) (now (c .entry)) (now (items .entry)) (now (wits .entry)) (now (positions .entry)) (now (quotient .entry)) (now (item .entry)) (now (wit .entry)) (now (opened .entry)) (now (openings .entry)) .answer ⌝ }
     ensures quotient { λ _. ⌜ now (quotient .exit) ≡ chain m n k l t challenge (now (a .entry)) (now (b .entry)) (now (c .entry)) (now (items .entry)) (now (wits .entry)) (now (positions .entry)) (now (quotient .entry)) (now (item .entry)) (now (wit .entry)) (now (opened .entry)) (now (openings .entry)) .quotient ⌝ }
     ensures item { λ _. ⌜ now (item .exit) ≡ chain m n k l t challenge (now (a .entry)) (now (b .entry)) (now (c .entry)) (now (items .entry)) (now (wits .entry)) (now (positions .entry)) (now (quotient .entry)) (now (item .entry)) (now (wit .entry)) (now (opened .entry)) (now (openings .entry)) .item ⌝ }
@@ -164,7 +163,7 @@ pub fn chain(
     if shown != 0 {
         return shown;
     }
-    judge(
+    verify_and_decide(
         m,
         n,
         k,

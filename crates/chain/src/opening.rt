@@ -4,7 +4,7 @@ ghost use Prim.Native.Nat.{suc, _+_, _*_, _≤_};
 ghost use lib.ListN.{length};
 ghost use Rattle.algebra.specs.Lists.{build};
 ghost use Rattle.tree.specs.Layout.{part};
-ghost use Rattle.theory.specs.Calls.{«open»};
+ghost use Rattle.theory.specs.Fp.{«open»};
 ghost use Rattle.chain.specs.Answers.{firstOf, firstRefusal};
 ghost use Rattle.chain.specs.Parts.{replaced, Filled};
 ghost use Rattle.chain.specs.Chained.{openItem, openInto};

@@ -5,7 +5,7 @@ use mathlib.Core.List.{List}
 use Prim.Native.Nat.{ℕ, zero, suc}
 use borrow.Author.Tests.{not-true, not-false}
 use Rattle.theory.specs.Checks.{answerIf, written}
-use Rattle.theory.proofs.CheckLaws.{and-left, written-accepted}
+use Rattle.theory.proofs.CheckLaws.{written-accepted}
 
 -- ---- answers
 
@@ -46,20 +46,3 @@ and-fails {a} b h = sym (ap (λ (t : Bool). t && b) h)
 
 pub and-passes : {a b r : Bool} → a ≡ true → r ≡ b → r ≡ (a && b)
 and-passes {a} {b} {r} h e = e ∙ sym (ap (λ (t : Bool). t && b) h)
-
-and-assoc : (a b c : Bool) → (a && (b && c)) ≡ (a && b && c)
-and-assoc true b c = refl
-and-assoc false b c = refl
-
-module _ (a b c d : Bool) where
-  grouped : (a && (b && c && d)) ≡ (a && b && c && d)
-  grouped = and-assoc a (b && c) d ∙ ap (λ (t : Bool). t && d) (and-assoc a b c)
-
-  pub and-fails-4 : a ≡ false → false ≡ (a && b && c && d)
-  and-fails-4 h = and-fails (b && c && d) h ∙ grouped
-
-  pub and-passes-4 : {r : Bool} → a ≡ true → r ≡ (b && c && d) → r ≡ (a && b && c && d)
-  and-passes-4 h e = and-passes h e ∙ grouped
-
-  pub first-of-4 : (a && b && c && d) ≡ true → a ≡ true
-  first-of-4 h = and-left a (b && c && d) (grouped ∙ h)

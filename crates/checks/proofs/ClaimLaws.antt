@@ -10,15 +10,17 @@ use lib.Dec.{ltb}
 use lib.ListN.{length, length-append}
 use Rattle.numbers.specs.Numbers.{numbers}
 use Rattle.numbers.proofs.Bytes.{length-numbers}
+use Rattle.numbers.proofs.Tests.{and-left, and-right}
 use Rattle.field.specs.BabyBear.{R, F, val, ofℕ}
 use Rattle.field.specs.Numbers.{Below}
 use Rattle.r1cs.specs.Rows.{EntriesInside}
 use Rattle.r1cs.proofs.ValueLaws.{rows-few}
 use Rattle.theory.specs.Checks.{every}
 use Rattle.theory.specs.R1cs.{weightedSum, value}
-use Rattle.theory.specs.Buffers.{entryCount, rowAt, columnAt, elements, circuit}
+use Rattle.theory.specs.Buffers.{entryCount, rowAt, columnAt}
+use Rattle.theory.specs.Fp.{elements, circuit}
 use Rattle.theory.specs.Sizes.{elementsBelow, inside, matrixInOrder, circuitInOrder}
-use Rattle.theory.proofs.CheckLaws.{and-left, and-right, every-true}
+use Rattle.theory.proofs.CheckLaws.{every-true}
 use Rattle.checks.proofs.WitnessLaws.{elements-numbers, numbers-below}
 
 -- ---- entries inside

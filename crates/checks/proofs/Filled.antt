@@ -4,7 +4,7 @@ use mathlib.Core.List.{List, [], _∷_, _++_, append-nil}
 use Prim.Native.Nat.{ℕ, _+_, _-_, _*_, _≤_}
 use native.Mathlib.Omega.{arith}
 use lib.ListN.{length, take, drop, set, length-append, length-take, length-drop, length-set}
-use lib.Seq.{take-at, take-length, drop-length}
+use lib.Seq.{take-at, drop-length}
 
 -- Nothing lies behind the end.
 drop-past : (s : List ℕ) {n : ℕ} → length s ≡ n → drop n s ≡ []
@@ -18,16 +18,10 @@ pub refilled-is : {a : ℕ} (front rest ys : List ℕ) → length front ≡ a �
 refilled-is {a} front rest ys e =
     ap₂ _++_ (take-at front rest a e) (ap (λ (t : List ℕ). ys ++ t) (drop-past (drop a (front ++ rest)) (length-drop a (front ++ rest))) ∙ append-nil ys)
 
--- ys copied into what lies behind the front, where there is room for no more.
-pub copied : {a : ℕ} (front rest ys : List ℕ) → length front ≡ a → length rest ≡ length ys
-    → take (length ys) ys ++ drop (length ys) (take (length (front ++ rest) - a) (drop a (front ++ rest))) ≡ ys
-copied {a} front rest ys e h = ap₂ _++_ (take-length ys) (drop-past behind fits) ∙ append-nil ys
-  where
-    behind : List ℕ
-    behind = take (length (front ++ rest) - a) (drop a (front ++ rest))
-
-    fits : length behind ≡ length ys
-    fits = omega (arith, length-take (length (front ++ rest) - a) (drop a (front ++ rest)), length-drop a (front ++ rest), length-append front rest)
+-- ys in the place of the n bytes behind the front, where there are no more.
+pub rest-written : {a n : ℕ} (front rest ys : List ℕ) → length front ≡ a → length rest ≡ n → take a (front ++ rest) ++ ys ++ drop (a + n) (front ++ rest) ≡ front ++ ys
+rest-written {a} {n} front rest ys e h =
+    ap₂ _++_ (ap (λ (t : List ℕ). t ++ ys) (take-at front rest a e)) (drop-past (front ++ rest) (length-append front rest ∙ ap₂ _+_ e h)) ∙ append-nil (front ++ ys)
 
 -- ---- e first, then rs and then xs
 

@@ -1,29 +1,29 @@
--- Parts of an item in a byte buffer, and the tests of its numbers and its root.
+-- Parts of an item in a byte buffer, and the test of a value against its e.
 use mathlib.Core.Path.{_≡_, sym, ap, ap₂, _∙_}
-use mathlib.Core.Bool.{Bool, true}
+use mathlib.Core.Bool.{true}
 use mathlib.Core.List.{List}
 use Prim.Native.Nat.{ℕ, _+_, _-_, _*_, _≤_, _<_}
 use native.Mathlib.Omega.{arith}
 use borrow.Author.Tests.{eqb-true, eq-eqb, ltb-true}
 use lib.Dec.{eqb, ltb}
 use lib.ListN.{length, getD, take, drop, length-take, length-drop}
-use lib.Seq.{getD-take, getD-drop, take-all}
+use lib.Seq.{getD-take, getD-drop}
 use Rattle.algebra.specs.Lists.{build}
 use Rattle.algebra.proofs.ListLaws.{build-cong}
 use Rattle.numbers.specs.Numbers.{numbers}
 use Rattle.numbers.proofs.Bounds.{all-below}
+use Rattle.numbers.proofs.Tests.{same-test}
 use Rattle.field.specs.BabyBear.{p, R, F, val, ofℕ}
 use Rattle.field.proofs.Laws.{val-small, ofℕ-val}
 use Rattle.tree.specs.Layout.{part}
 use Rattle.theory.specs.R1cs.{Circuit, value}
-use Rattle.theory.specs.Instance.{witnessRoot}
-use Rattle.theory.specs.Buffers.{numberAt, elementAt, elements, itemSize, readItem}
-use Rattle.theory.specs.Sizes.{elementsBelow, itemBelow}
-use Rattle.theory.specs.Calls.{sameBytes, sameElement, matches, holds}
+use Rattle.theory.specs.Buffers.{numberAt}
+use Rattle.theory.specs.Sizes.{elementsBelow}
+use Rattle.theory.specs.Fp.{fp, elementAt, elements, itemFront, readItem, itemBelow, sameElement}
 use Rattle.theory.proofs.CheckLaws.{every-true}
 use Rattle.theory.proofs.Parts.{length-part}
 use Rattle.theory.proofs.ElementBytes.{numbers-part}
-use Rattle.theory.proofs.Equality.{same-element, equal-element, same-test, bytes-test}
+use Rattle.theory.proofs.Equality.{same-element, equal-element}
 
 -- ---- tests
 
@@ -31,8 +31,8 @@ use Rattle.theory.proofs.Equality.{same-element, equal-element, same-test, byte
 pub element-test : (v : F) (e : ℕ) → e < p → eqb (val v) e ≡ sameElement v (ofℕ e)
 element-test v e h =
     same-test (eqb (val v) e) (sameElement v (ofℕ e))
-    (λ t. same-element (sym (ofℕ-val v) ∙ ap ofℕ (eqb-true (val v) e t)))
-    (λ t. eq-eqb (val v) e (ap val (equal-element v (ofℕ e) t) ∙ val-small h))
+    (λ t. same-element fp (sym (ofℕ-val v) ∙ ap ofℕ (eqb-true (val v) e t)))
+    (λ t. eq-eqb (val v) e (ap val (equal-element fp v (ofℕ e) t) ∙ val-small h))
 
 -- ---- elements of a part
 
@@ -48,16 +48,7 @@ elements-part b i n h = build-cong n (elementAt (part b (4 * i) (4 * n))) (λ j.
 
 -- ---- an item of m and n numbers
 
--- The bytes from a start to the end.
-pub to-end : (s : List ℕ) (at : ℕ) → take (length s - at) (drop at s) ≡ drop at s
-to-end s at = take-all (length s - at) (drop at s) (omega (arith, length-drop at s))
-
--- The root's test.
-pub root-test : (m n k : ℕ) (b : List ℕ) (w : List F) {bytes root : List ℕ} {r : Bool} → bytes ≡ drop (4 + 4 * m + 4 * n) b → root ≡ witnessRoot k w
-    → (r ≡ true → bytes ≡ root) × (bytes ≡ root → r ≡ true) → r ≡ matches k (readItem m n b) w
-root-test m n k b w {bytes} {root} {r} e h t = bytes-test r bytes root t ∙ ap₂ sameBytes e h
-
-module _ (m n : ℕ) (b : List ℕ) (size : length b ≡ itemSize m n) where
+module _ (m n : ℕ) (b : List ℕ) (room : itemFront m n ≤ length b) where
   -- The bytes of r and of x, from their start to their end.
   abbrev pub rBytes : List ℕ
   rBytes = take (4 + 4 * m - 4) (drop 4 b)
@@ -82,12 +73,12 @@ module _ (m n : ℕ) (b : List ℕ) (size : length b ≡ itemSize m n) where
   pub x-length : length xBytes ≡ 4 * n
   x-length = ap length x-part ∙ length-part b (4 * (1 + m)) (4 * n) (omega arith)
 
-  -- Their elements are those of the item.
-  pub elements-r : elements m rBytes ≡ build m (λ j. elementAt b (1 + j))
-  elements-r = ap (elements m) r-part ∙ elements-part b 1 m (omega arith)
-
-  pub elements-x : elements n xBytes ≡ build n (λ j. elementAt b (1 + m + j))
-  elements-x = ap (elements n) x-part ∙ elements-part b (1 + m) n (omega arith)
+  -- The value at their elements is that at the item's.
+  pub item-value-read : (M : Circuit F) (w : List F) → val (value R M (elements m rBytes) (elements n xBytes) w) ≡ val (value R M (readItem m n b .r) (readItem m n b .x) w)
+  item-value-read M w =
+      ap₂ (λ (r x : List F). val (value R M r x w))
+      (ap (elements m) r-part ∙ elements-part b 1 m (omega arith))
+      (ap (elements n) x-part ∙ elements-part b (1 + m) n (omega arith))
 
   module _ (small : itemBelow m n b ≡ true) where
     number-below : (j : ℕ) → j < 1 + m + n → numberAt b j < p
@@ -101,8 +92,6 @@ module _ (m n : ℕ) (b : List ℕ) (size : length b ≡ itemSize m n) where
             let inside : j < m = omega (arith, ap length (numbers-part b 1 m (omega arith)), length-take m (drop 1 (numbers b))) in
             rw (number-part b 1 m j (omega arith) inside) (number-below (1 + j) (omega arith))
 
-    -- The test of the value against e.
-    pub value-test : (M : Circuit F) (w : List F) {v e : ℕ} → v ≡ val (value R M (elements m rBytes) (elements n xBytes) w) → e ≡ numberAt b 0 → eqb v e ≡ holds M (readItem m n b) w
-    value-test M w h q =
-        ap₂ eqb (h ∙ ap₂ (λ (r x : List F). val (value R M r x w)) elements-r elements-x) q
-        ∙ element-test (value R M (readItem m n b .r) (readItem m n b .x) w) (numberAt b 0) (number-below 0 (omega arith))
+    -- The test of a value against e.
+    pub value-test : (v : F) {z e : ℕ} → z ≡ val v → e ≡ numberAt b 0 → eqb z e ≡ sameElement v (readItem m n b .e)
+    value-test v h q = ap₂ eqb h q ∙ element-test v (numberAt b 0) (number-below 0 (omega arith))

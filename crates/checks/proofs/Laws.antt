@@ -1,19 +1,15 @@
--- The laws of a loop that tests f at 0, 1, .. and stops at the first number that fails (`every i f ≡ true` where i is next),
--- and of members of one size that lie one after the other in a buffer.
+-- The laws of a loop that tests f at 0, 1, .. and stops at the first number that fails (`every i f ≡ true` where i is next).
 use mathlib.Core.Path.{_≡_, refl, sym, ap, ap₂, _∙_}
-use mathlib.Core.Bool.{Bool, true, false, _&&_, and-false}
-use mathlib.Core.List.{List}
-use Prim.Native.Nat.{ℕ, zero, suc, _+_, _-_, _*_, _%_, _^_, _≤_, _<_}
+use mathlib.Core.Bool.{Bool, true, false, not, _&&_, and-false}
+use Prim.Native.Nat.{ℕ, zero, suc, _+_, _*_, _%_, _^_, _≤_, _<_}
 use native.Mathlib.Decide.{ℕ-discrete}
-use native.Mathlib.Nat.{suc-mul, mul-le-mul-right, pow-le-pow-right}
+use native.Mathlib.Nat.{pow-le-pow-right}
 use native.Mathlib.Numerals.{add-one}
 use native.Mathlib.Omega.{arith}
-use borrow.Author.Tests.{lt-ltb, le-ltb}
+use borrow.Author.Tests.{lt-ltb, le-ltb, not-true, not-false}
 use lib.Dec.{ltb}
-use lib.ListN.{length, length-take, length-drop}
-use Rattle.tree.specs.Layout.{part}
+use Rattle.numbers.proofs.Tests.{_&_}
 use Rattle.theory.specs.Checks.{every}
-use Rattle.theory.proofs.CheckLaws.{_&_}
 
 -- ---- a test of each number below n
 
@@ -41,6 +37,19 @@ every-fails (suc n) f i l h = go (ℕ-discrete i n) (λ less. every-fails n f i 
 pub every-all : (n : ℕ) (f : ℕ → Bool) (i : ℕ) → i ≤ n → n ≤ i → every i f ≡ true → true ≡ every n f
 every-all n f i l g e = let q : n ≡ i = omega arith in rw q (sym e)
 
+-- The same for a turn that found r, and the code tests the opposite of r.
+pub turn-fails : (n : ℕ) (f : ℕ → Bool) (i : ℕ) {r : Bool} → i < n → r ≡ f i → not r ≡ true → false ≡ every n f
+turn-fails n f i {r} l e h = every-fails n f i l (sym e ∙ not-true r h)
+
+pub turn-passes : (f : ℕ → Bool) (i : ℕ) {r : Bool} → every i f ≡ true → r ≡ f i → not r ≡ false → every (i + 1) f ≡ true
+turn-passes f i {r} t e h = every-more f i t (sym e ∙ not-false r h)
+
+-- Tests that agree below n.
+pub every-cong : (n : ℕ) (f g : ℕ → Bool) → ((i : ℕ) → i < n → f i ≡ g i) → every n f ≡ every n g
+unfolding every
+every-cong zero f g h = refl
+every-cong (suc n) f g h = ap₂ _&&_ (every-cong n f g (λ i l. h i (omega arith))) (h n (omega arith))
+
 -- The same where f tests that g stays below a bound.
 module _ (bound : ℕ) where
   pub below-more : (g : ℕ → ℕ) (i : ℕ) {x : ℕ} → every i (λ i. ltb (g i) bound) ≡ true → x ≡ g i → x < bound → every (i + 1) (λ i. ltb (g i) bound) ≡ true
@@ -48,23 +57,6 @@ module _ (bound : ℕ) where
 
   pub below-fails : (n : ℕ) (g : ℕ → ℕ) (i : ℕ) {x : ℕ} → i < n → x ≡ g i → bound ≤ x → false ≡ every n (λ i. ltb (g i) bound)
   below-fails n g i l q h = every-fails n (λ i. ltb (g i) bound) i l (le-ltb (g i) bound (omega arith))
-
--- ---- members of s bytes, one after the other
-
--- Member i of n members of s bytes lies inside.
-pub member-inside : (n s i : ℕ) → i < n → i * s + s ≤ n * s
-member-inside n s i l = rw suc-mul at (mul-le-mul-right s l)
-
--- Member i + 1 lies after member i.
-pub member-next : {at : ℕ} (s i : ℕ) → at ≡ i * s → at + s ≡ (i + 1) * s
-member-next s i e = rw (add-one, suc-mul, e)
-
--- The bytes from member i up to member i + 1 are member i, and there are s of them.
-pub member-part : {at : ℕ} (xs : List ℕ) (s i : ℕ) → at ≡ i * s → part xs at (at + s - at) ≡ part xs (i * s) s
-member-part {at} xs s i e = let w : at + s - at ≡ s = omega arith in ap₂ (part xs) e w
-
-pub member-length : (at : ℕ) (xs : List ℕ) (s : ℕ) → at + s ≤ length xs → length (part xs at (at + s - at)) ≡ s
-member-length at xs s h = simp (length-take, length-drop) (omega arith)
 
 -- ---- rows
 

@@ -4,5 +4,7 @@ pub mod WitnessLaws
 pub mod ItemTests
 pub mod ClaimLaws
 pub mod Members
+pub mod Listed
+pub mod ListLaws
 pub mod Filled
 pub mod Calls

@@ -1,64 +1,75 @@
--- Item i and witness i of l items and l witnesses in byte buffers, cut out at the places where they start.
+-- Members of one size that lie one after the other in a buffer: a member cut out at the place where it starts.
 use mathlib.Core.Path.{_≡_, sym, ap, ap₂, _∙_}
 use mathlib.Core.Bool.{Bool, true}
 use mathlib.Core.List.{List}
 use Prim.Native.Nat.{ℕ, _+_, _-_, _*_, _≤_, _<_}
+use native.Mathlib.Nat.{suc-mul}
+use native.Mathlib.Numerals.{add-one}
 use native.Mathlib.Omega.{arith}
-use lib.ListN.{length}
+use lib.ListN.{length, take, drop}
+use lib.Seq.{drop-drop}
 use Rattle.field.specs.BabyBear.{babyBear, F}
 use Rattle.tree.specs.Layout.{part}
+use Rattle.tree.proofs.Blocks.{drop-take}
+use Rattle.theory.specs.Checks.{every}
 use Rattle.theory.specs.Items.{Item}
 use Rattle.theory.specs.Combination.{itemAt}
-use Rattle.theory.specs.Buffers.{elements, circuit, itemSize, itemPart, readItem, readItems, witnessPart, readWitness}
-use Rattle.theory.specs.Sizes.{elementsBelow, itemBelow, itemsBelow}
-use Rattle.theory.specs.Calls.{matches, holds}
+use Rattle.theory.specs.Sizes.{elementsBelow}
+use Rattle.theory.specs.Fp.{fp, itemPart, readItem, readItems, readWitness}
 use Rattle.theory.proofs.CheckLaws.{every-true}
-use Rattle.theory.proofs.Parts.{part-within}
+use Rattle.theory.proofs.Parts.{length-part, part-within}
 use Rattle.theory.proofs.ElementBytes.{witness-below}
+use Rattle.theory.proofs.FpLaws.{fp-laws}
 use Rattle.theory.proofs.Reading.{itemAt-readItems}
-use Rattle.checks.proofs.Laws.{member-part, member-length}
+use Rattle.checks.proofs.Laws.{every-cong}
 
--- The tests of item i and witness i.
-abbrev pub matchAt : ℕ → ℕ → ℕ → ℕ → List ℕ → List ℕ → ℕ → Bool
-matchAt m n k l items wits i = matches k (itemAt babyBear (readItems m n l items) i) (readWitness k wits i)
+-- Member i of n members of s bytes in the buffer xs starts at `at`.
+pub record Member (s n i at : ℕ) (xs : List ℕ) : Type 0 where
+  pub inside : i < n
+  pub place : at ≡ i * s
+  pub long : length xs ≡ n * s
 
-abbrev pub holdAt : ℕ → ℕ → ℕ → ℕ → List ℕ → List ℕ → List ℕ → List ℕ → List ℕ → ℕ → Bool
-holdAt m n k l a b c items wits i = holds (circuit a b c) (itemAt babyBear (readItems m n l items) i) (readWitness k wits i)
-
--- The bytes from a member's start to its end.
+-- The bytes from a start to the end of the member there, as the code cuts them out.
 abbrev pub cut : List ℕ → ℕ → ℕ → List ℕ
-cut s at size = part s at (at + size - at)
+cut xs at s = part xs at (at + s - at)
 
-module _ (m n l i : ℕ) (items : List ℕ) (item : ℕ) (h : i < l) (at : item ≡ i * itemSize m n) (long : length items ≡ l * itemSize m n) where
-  item-cut : cut items item (itemSize m n) ≡ itemPart m n items i
-  item-cut = member-part items (itemSize m n) i at
+pub cut-whole : {at : ℕ} (xs : List ℕ) (s i : ℕ) → at ≡ i * s → cut xs at s ≡ part xs (i * s) s
+cut-whole {at} xs s i e = let w : at + s - at ≡ s = omega arith in ap₂ (part xs) e w
 
-  pub item-within : item + itemSize m n ≤ length items
-  item-within = omega (arith, part-within l i (itemSize m n) (length items) h long)
+-- Member i + 1 starts behind member i.
+pub next-place : {at : ℕ} (s i : ℕ) → at ≡ i * s → at + s ≡ (i + 1) * s
+next-place s i e = rw (add-one, suc-mul, e)
 
-  pub item-length : length (cut items item (itemSize m n)) ≡ itemSize m n
-  item-length = member-length item items (itemSize m n) item-within
+module _ {s n i at : ℕ} {xs : List ℕ} (h : Member s n i at xs) where
+  pub within : at + s ≤ length xs
+  within = omega (arith, part-within n i s (length xs) (h .inside) (h .long), h .place)
 
-  pub item-numbers-below : itemsBelow m n l items ≡ true → itemBelow m n (cut items item (itemSize m n)) ≡ true
-  item-numbers-below e = ap (itemBelow m n) item-cut ∙ every-true l (λ j. itemBelow m n (itemPart m n items j)) e i h
+  pub cut-member : cut xs at s ≡ part xs (i * s) s
+  cut-member = cut-whole xs s i (h .place)
 
-module _ (k l i : ℕ) (wits : List ℕ) (wit : ℕ) (h : i < l) (at : wit ≡ i * (4 * k)) (long : length wits ≡ l * (4 * k)) where
-  wit-cut : cut wits wit (4 * k) ≡ witnessPart k wits i
-  wit-cut = member-part wits (4 * k) i at
+  pub cut-length : length (cut xs at s) ≡ s
+  cut-length = ap length cut-member ∙ length-part xs (i * s) s (part-within n i s (length xs) (h .inside) (h .long))
 
-  pub wit-within : wit + 4 * k ≤ length wits
-  wit-within = omega (arith, part-within l i (4 * k) (length wits) h long)
+  -- What a test says of each member, it says of the one that is cut out.
+  pub cut-passes : (test : List ℕ → Bool) → every n (λ j. test (part xs (j * s) s)) ≡ true → test (cut xs at s) ≡ true
+  cut-passes test e = ap test cut-member ∙ every-true n (λ j. test (part xs (j * s) s)) e i (h .inside)
 
-  pub wit-length : length (cut wits wit (4 * k)) ≡ 4 * k
-  wit-length = member-length wit wits (4 * k) wit-within
+  -- The bytes behind the first `front` of the member.
+  pub cut-behind : (front : ℕ) → front ≤ s → part xs (at + front) (at + s - (at + front)) ≡ drop front (part xs (i * s) s)
+  cut-behind front l =
+      let left : at + s - (at + front) ≡ s - front = omega arith in
+      let whole : front + (s - front) ≡ s = omega arith in
+      ap₂ (λ (b size : ℕ). part xs (b + front) size) (h .place) left
+      ∙ ap (take (s - front)) (sym (drop-drop front (i * s) xs))
+      ∙ sym (drop-take front (s - front) (drop (i * s) xs))
+      ∙ ap (λ (size : ℕ). drop front (take size (drop (i * s) xs))) whole
 
-  pub wit-numbers-below : elementsBelow wits ≡ true → elementsBelow (cut wits wit (4 * k)) ≡ true
-  wit-numbers-below e = ap elementsBelow wit-cut ∙ witness-below k l i wits h long e
+-- The numbers of one of the witnesses of k numbers.
+pub wit-below : (k : ℕ) {l i at : ℕ} {wits : List ℕ} → Member (4 * k) l i at wits → elementsBelow wits ≡ true → elementsBelow (cut wits at (4 * k)) ≡ true
+wit-below k {l} {i} {at} {wits} h e = ap elementsBelow (cut-member h) ∙ witness-below fp fp-laws k l i wits (h .inside) (h .long) e
 
--- A test of the two that are cut out is the test of item i and witness i.
-pub test-at : (test : Item F → List F → Bool) (m n k l i : ℕ) (items wits : List ℕ) (item wit : ℕ) → i < l → item ≡ i * itemSize m n → wit ≡ i * (4 * k)
-    → test (readItem m n (cut items item (itemSize m n))) (elements k (cut wits wit (4 * k))) ≡ test (itemAt babyBear (readItems m n l items) i) (readWitness k wits i)
-test-at test m n k l i items wits item wit h at-item at-wit =
-    ap₂ test
-    (ap (readItem m n) (member-part items (itemSize m n) i at-item) ∙ sym (itemAt-readItems m n l items i h))
-    (ap (elements k) (member-part wits (4 * k) i at-wit))
+-- A test of each item of a list and its witness, as they are read.
+pub every-read : (test : Item F → List F → Bool) (m n k l : ℕ) (items wits : List ℕ)
+    → every l (λ i. test (readItem m n (itemPart m n items i)) (readWitness k wits i)) ≡ every l (λ i. test (itemAt babyBear (readItems m n l items) i) (readWitness k wits i))
+every-read test m n k l items wits =
+    every-cong l _ _ (λ i h. ap (λ (t : Item F). test t (readWitness k wits i)) (sym (itemAt-readItems fp m n l items i h)))

@@ -20,8 +20,7 @@ use Rattle.code.specs.Points.{isWitnessCount, points, depth}
 use Rattle.code.specs.Codeword.{codeword}
 use Rattle.code.proofs.Sizes.{for-witness-counts, depth-leaves}
 use Rattle.theory.specs.Items.{leaves}
-use Rattle.theory.specs.Instance.{sha, codewordOf, witnessRoot}
-use Rattle.theory.specs.Buffers.{elements}
+use Rattle.theory.specs.Fp.{sha, codewordOf, witnessRoot, elements}
 use Rattle.theory.specs.Sizes.{elementsBelow}
 
 -- A witness has at most 64 numbers.

@@ -1,23 +1,24 @@
-// Checks 10 and 11: an item matches its witness; an item holds with its witness.
+// Checks 10 and 11: an item matches its witness; an item holds with its witness. Where items lie is said by their size in bytes.
 ghost use mathlib.Core.Path.{_≡_};
 ghost use mathlib.Core.Bool.{true};
 ghost use Prim.Native.Nat.{_*_, _≤_};
-ghost use lib.ListN.{length};
+ghost use lib.ListN.{length, drop};
+ghost use Rattle.numbers.specs.Equality.{sameBytes};
 ghost use Rattle.field.specs.BabyBear.{R, val};
+ghost use Rattle.tree.specs.Layout.{part};
 ghost use Rattle.code.specs.Points.{isWitnessCount};
 ghost use Rattle.theory.specs.R1cs.{value};
-ghost use Rattle.theory.specs.Buffers.{elements, circuit, itemSize, readItem};
-ghost use Rattle.theory.specs.Sizes.{elementsBelow, itemBelow, itemsBelow, circuitInOrder};
-ghost use Rattle.theory.specs.Calls.{matches, holds, allMatch, allHold};
+ghost use Rattle.theory.specs.Checks.{every};
+ghost use Rattle.theory.specs.Sizes.{elementsBelow, circuitInOrder};
+ghost use Rattle.theory.specs.Fp.{witnessRoot, elements, circuit, itemFront, readItem, readWitness, itemBelow, holds};
 
-// Check 10 for one item.
-pub fn matches(m: usize, n: usize, k: usize, item: &[u8], wit: &[u8]) -> bool
-    requires { ⌜ (m ≤ 6) × (n ≤ 64) × (isWitnessCount k ≡ true) × (length (now item) ≡ itemSize m n) × (length (now wit) ≡ 4 * k) × (elementsBelow (now wit) ≡ true) ⌝ }
-    ensures { λ r. ⌜ r ≡ matches k (readItem m n (now (item .entry))) (elements k (now (wit .entry))) ⌝ }
+// Check 10 for one item, whose root is lent.
+pub fn matches(k: usize, root: &[u8], wit: &[u8]) -> bool
+    requires { ⌜ (isWitnessCount k ≡ true) × (length (now wit) ≡ 4 * k) × (elementsBelow (now wit) ≡ true) ⌝ }
+    ensures { λ r. ⌜ r ≡ sameBytes (now (root .entry)) (witnessRoot k (elements k (now (wit .entry)))) ⌝ }
 {
-    let root = crate::witness::root(k, wit);
-    let start = 4 + 4 * m + 4 * n;
-    check::same(&item[start..], &root)
+    let expected = crate::witness::root(k, wit);
+    check::same(root, &expected)
 }
 
 // The value at r, x and w.
@@ -45,6 +46,26 @@ pub fn claim_value(
     r1cs::value(a, b, c, &rs[..m], &z[..end])
 }
 
+// The value at an item's r and x and at its witness.
+pub fn item_value(
+    m: usize,
+    n: usize,
+    k: usize,
+    a: &[u8],
+    b: &[u8],
+    c: &[u8],
+    item: &[u8],
+    wit: &[u8],
+) -> u32
+    requires { ⌜ (m ≤ 6) × (n ≤ 64) × (k ≤ 64) × (itemFront m n ≤ length (now item)) × (length (now wit) ≡ 4 * k) ⌝ }
+    requires { ⌜ (itemBelow m n (now item) ≡ true) × (circuitInOrder m n k (now a) (now b) (now c) ≡ true) ⌝ }
+    ensures { λ r. ⌜ r ≡ val (value R (circuit (now (a .entry)) (now (b .entry)) (now (c .entry))) (readItem m n (now (item .entry)) .r) (readItem m n (now (item .entry)) .x) (elements k (now (wit .entry)))) ⌝ }
+{
+    let x = 4 + 4 * m;
+    let end = x + 4 * n;
+    claim_value(m, n, k, a, b, c, &item[4..x], &item[x..end], wit)
+}
+
 // Check 11 for one item.
 pub fn holds(
     m: usize,
@@ -56,29 +77,27 @@ pub fn holds(
     item: &[u8],
     wit: &[u8],
 ) -> bool
-    requires { ⌜ (m ≤ 6) × (n ≤ 64) × (isWitnessCount k ≡ true) × (length (now item) ≡ itemSize m n) × (length (now wit) ≡ 4 * k) ⌝ }
+    requires { ⌜ (m ≤ 6) × (n ≤ 64) × (k ≤ 64) × (itemFront m n ≤ length (now item)) × (length (now wit) ≡ 4 * k) ⌝ }
     requires { ⌜ (itemBelow m n (now item) ≡ true) × (circuitInOrder m n k (now a) (now b) (now c) ≡ true) ⌝ }
     ensures { λ r. ⌜ r ≡ holds (circuit (now (a .entry)) (now (b .entry)) (now (c .entry))) (readItem m n (now (item .entry))) (elements k (now (wit .entry))) ⌝ }
 {
-    let x = 4 + 4 * m;
-    let end = x + 4 * n;
-    claim_value(m, n, k, a, b, c, &item[4..x], &item[x..end], wit) == numbers::get(item, 0)
+    item_value(m, n, k, a, b, c, item, wit) == numbers::get(item, 0)
 }
 
-// Check 10 for each of l items.
-pub fn all_match(m: usize, n: usize, k: usize, l: usize, items: &[u8], wits: &[u8]) -> bool
-    requires { ⌜ (m ≤ 6) × (n ≤ 64) × (isWitnessCount k ≡ true) × (l ≤ 8) × (length (now items) ≡ l * itemSize m n) × (length (now wits) ≡ l * (4 * k)) × (elementsBelow (now wits) ≡ true) ⌝ }
-    ensures { λ r. ⌜ r ≡ allMatch m n k l (now (items .entry)) (now (wits .entry)) ⌝ }
+// Check 10 for each of l items of `size` bytes, whose roots start at byte `front` of theirs.
+pub fn all_match(k: usize, l: usize, size: usize, front: usize, items: &[u8], wits: &[u8]) -> bool
+    requires { ⌜ (isWitnessCount k ≡ true) × (front ≤ size) × (length (now items) ≡ l * size) × (length (now wits) ≡ l * (4 * k)) × (elementsBelow (now wits) ≡ true) ⌝ }
+    ensures { λ r. ⌜ r ≡ every l (λ i. sameBytes (drop front (part (now (items .entry)) (i * size) size)) (witnessRoot k (readWitness k (now (wits .entry)) i))) ⌝ }
 {
-    let size = 4 + 4 * m + 4 * n + 32;
     let width = 4 * k;
     let mut item = 0;
     let mut wit = 0;
     let mut i = 0;
     while i < l {
+        let root = item + front;
         let next_item = item + size;
         let next_wit = wit + width;
-        if !matches(m, n, k, &items[item..next_item], &wits[wit..next_wit]) {
+        if !matches(k, &items[root..next_item], &wits[wit..next_wit]) {
             return false;
         }
         item = next_item;
@@ -88,23 +107,23 @@ pub fn all_match(m: usize, n: usize, k: usize, l: usize, items: &[u8], wits: &[u
     true
 }
 
-// Check 11 for each of l items.
+// Check 11 for each of l items of `size` bytes.
 pub fn all_hold(
     m: usize,
     n: usize,
     k: usize,
     l: usize,
+    size: usize,
     a: &[u8],
     b: &[u8],
     c: &[u8],
     items: &[u8],
     wits: &[u8],
 ) -> bool
-    requires { ⌜ (m ≤ 6) × (n ≤ 64) × (isWitnessCount k ≡ true) × (l ≤ 8) × (length (now items) ≡ l * itemSize m n) × (length (now wits) ≡ l * (4 * k)) ⌝ }
-    requires { ⌜ (itemsBelow m n l (now items) ≡ true) × (circuitInOrder m n k (now a) (now b) (now c) ≡ true) ⌝ }
-    ensures { λ r. ⌜ r ≡ allHold m n k l (now (a .entry)) (now (b .entry)) (now (c .entry)) (now (items .entry)) (now (wits .entry)) ⌝ }
+    requires { ⌜ (m ≤ 6) × (n ≤ 64) × (k ≤ 64) × (itemFront m n ≤ size) × (length (now items) ≡ l * size) × (length (now wits) ≡ l * (4 * k)) ⌝ }
+    requires { ⌜ (every l (λ i. itemBelow m n (part (now items) (i * size) size)) ≡ true) × (circuitInOrder m n k (now a) (now b) (now c) ≡ true) ⌝ }
+    ensures { λ r. ⌜ r ≡ every l (λ i. holds (circuit (now (a .entry)) (now (b .entry)) (now (c .entry))) (readItem m n (part (now (items .entry)) (i * size) size)) (readWitness k (now (wits .entry)) i)) ⌝ }
 {
-    let size = 4 + 4 * m + 4 * n + 32;
     let width = 4 * k;
     let mut item = 0;
     let mut wit = 0;

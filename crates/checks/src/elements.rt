@@ -1,10 +1,13 @@
-// Check 3: elements, coefficients and opened values are below p.
+// Check 3: elements, values of entries and opened values are below p. Where items and openings lie is said by their sizes in bytes.
 ghost use mathlib.Core.Path.{_≡_};
 ghost use Prim.Native.Nat.{_*_, _≤_};
+ghost use lib.Dec.{ltb};
 ghost use lib.ListN.{length};
-ghost use Rattle.tree.specs.Layout.{openingSize};
-ghost use Rattle.theory.specs.Buffers.{itemSize};
-ghost use Rattle.theory.specs.Sizes.{elementsBelow, matrixBelow, circuitBelow, itemBelow, itemsBelow, openedBelow};
+ghost use Rattle.field.specs.BabyBear.{p};
+ghost use Rattle.tree.specs.Layout.{part, openedValue};
+ghost use Rattle.theory.specs.Checks.{every};
+ghost use Rattle.theory.specs.Buffers.{numberAt};
+ghost use Rattle.theory.specs.Sizes.{elementsBelow, matrixBelow, circuitBelow};
 
 // All numbers of a buffer of whole numbers.
 pub fn elements_below(b: &[u8], count: usize) -> bool
@@ -35,12 +38,11 @@ pub fn circuit_below(a: &[u8], b: &[u8], c: &[u8]) -> bool
     matrix_below(a) & matrix_below(b) & matrix_below(c)
 }
 
-// The numbers of an item: e, r and x.
-pub fn item_below(m: usize, n: usize, item: &[u8]) -> bool
-    requires { ⌜ (m ≤ 6) × (n ≤ 64) × (length (now item) ≡ itemSize m n) ⌝ }
-    ensures { λ r. ⌜ r ≡ itemBelow m n (now (item .entry)) ⌝ }
+// The first `count` numbers of an item.
+pub fn item_below(count: usize, item: &[u8]) -> bool
+    requires { ⌜ 4 * count ≤ length (now item) ⌝ }
+    ensures { λ r. ⌜ r ≡ every count (λ j. ltb (numberAt (now (item .entry)) j) p) ⌝ }
 {
-    let count = 1 + m + n;
     let mut j = 0;
     while j < count {
         if field::P <= numbers::get(item, j) {
@@ -51,16 +53,16 @@ pub fn item_below(m: usize, n: usize, item: &[u8]) -> bool
     true
 }
 
-pub fn items_below(m: usize, n: usize, l: usize, items: &[u8]) -> bool
-    requires { ⌜ (m ≤ 6) × (n ≤ 64) × (length (now items) ≡ l * itemSize m n) ⌝ }
-    ensures { λ r. ⌜ r ≡ itemsBelow m n l (now (items .entry)) ⌝ }
+// The first `count` numbers of each of l items of `size` bytes.
+pub fn items_below(count: usize, size: usize, l: usize, items: &[u8]) -> bool
+    requires { ⌜ (4 * count ≤ size) × (length (now items) ≡ l * size) ⌝ }
+    ensures { λ r. ⌜ r ≡ every l (λ i. every count (λ j. ltb (numberAt (part (now (items .entry)) (i * size) size) j) p)) ⌝ }
 {
-    let size = 4 + 4 * m + 4 * n + 32;
     let mut at = 0;
     let mut i = 0;
     while i < l {
         let next = at + size;
-        if !item_below(m, n, &items[at..next]) {
+        if !item_below(count, &items[at..next]) {
             return false;
         }
         at = next;
@@ -69,12 +71,11 @@ pub fn items_below(m: usize, n: usize, l: usize, items: &[u8]) -> bool
     true
 }
 
-// The opened values of `count` openings.
-pub fn opened_below(depth: usize, count: usize, openings: &[u8]) -> bool
-    requires { ⌜ (depth ≤ 8) × (length (now openings) ≡ count * openingSize depth) ⌝ }
-    ensures { λ r. ⌜ r ≡ openedBelow depth count (now (openings .entry)) ⌝ }
+// The values of `count` openings of `size` bytes.
+pub fn opened_below(size: usize, count: usize, openings: &[u8]) -> bool
+    requires { ⌜ (4 ≤ size) × (length (now openings) ≡ count * size) ⌝ }
+    ensures { λ r. ⌜ r ≡ every count (λ j. ltb (openedValue (now (openings .entry)) (j * size)) p) ⌝ }
 {
-    let size = 4 + 32 * depth;
     let mut at = 0;
     let mut j = 0;
     while j < count {

@@ -2,7 +2,8 @@
 ghost use mathlib.Core.Path.{_≡_};
 ghost use Prim.Native.Nat.{_*_, _<_};
 ghost use lib.ListN.{length};
-ghost use Rattle.theory.specs.Sizes.{sizes, itemCountFits, positionCountFits, matrixFits, circuitFits, challengeFits, positionsBelow};
+ghost use Rattle.theory.specs.Sizes.{sizes, itemCountFits, positionCountFits, matrixFits, circuitFits, positionsBelow};
+ghost use Rattle.theory.specs.Fp.{challengeFits};
 
 pub fn sizes(m: u32, n: u32, k: u32) -> bool
     ensures { λ r. ⌜ r ≡ sizes m n k ⌝ }

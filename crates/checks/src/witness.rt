@@ -6,8 +6,7 @@ ghost use Prim.Native.Nat.{_*_};
 ghost use lib.ListN.{length};
 ghost use Rattle.field.specs.BabyBear.{val};
 ghost use Rattle.code.specs.Points.{isWitnessCount};
-ghost use Rattle.theory.specs.Instance.{codewordOf, witnessRoot};
-ghost use Rattle.theory.specs.Buffers.{elements};
+ghost use Rattle.theory.specs.Fp.{codewordOf, witnessRoot, elements};
 ghost use Rattle.theory.specs.Sizes.{elementsBelow};
 
 // Fills out with the codeword of the k numbers of w.

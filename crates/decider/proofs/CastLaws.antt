@@ -9,18 +9,15 @@ use lib.Dec.{eqb, lit<}
 use lib.ListN.{length, length-append}
 use Rattle.numbers.specs.Numbers.{numbers, bytes}
 use Rattle.numbers.proofs.Bytes.{length-numbers}
+use Rattle.numbers.proofs.Tests.{each-true}
 use Rattle.field.specs.BabyBear.{F, val, 𝟘}
 use Rattle.field.proofs.Laws.{val-zero, ofℕ-zero}
 use Rattle.field.proofs.Numbers.{numbers-of-elements}
-use Rattle.theory.specs.Checks.{answer}
-use Rattle.theory.specs.Instance.{witnessRoot}
-use Rattle.theory.specs.Buffers.{elements, itemSize, itemBytes}
 use Rattle.theory.specs.Sizes.{sizes, circuitFits, hasLength, circuitBelow, elementsBelow}
-use Rattle.theory.specs.Calls.{sameElement, castItem, castChecks}
-use Rattle.theory.proofs.CheckLaws.{each-true, answer-passed}
+use Rattle.theory.specs.Fp.{witnessRoot, elements, itemSize, itemBytes, sameElement, castItem, castFits}
 use Rattle.checks.proofs.WitnessLaws.{elements-numbers, numbers-below}
 use Rattle.checks.proofs.ItemTests.{element-test}
-use Rattle.decider.proofs.Sized.{Sized, sized}
+use Rattle.checks.proofs.Listed.{Sized, sized}
 
 -- ---- checks 2 and 3
 
@@ -31,8 +28,13 @@ pub record CastFits (m n k : ℕ) (r x w item : List ℕ) : Type 0 where
   pub w-length : length w ≡ 4 * k
   pub item-length : length item ≡ itemSize m n
 
+pub record CastBelow (r x w : List ℕ) : Type 0 where
+  pub r-below : elementsBelow r ≡ true
+  pub x-below : elementsBelow x ≡ true
+  pub w-below : elementsBelow w ≡ true
+
 module _ (m n k : ℕ) (a b c r x w item : List ℕ) where
-  pub cast-fits : (sizes m n k && circuitFits a b c && hasLength r (4 * m) && hasLength x (4 * n) && hasLength w (4 * k) && hasLength item (itemSize m n)) ≡ true → CastFits m n k r x w item
+  pub cast-fits : castFits m n k a b c r x w item ≡ true → CastFits m n k r x w item
   cast-fits h =
       let t = each-true (sizes m n k) (circuitFits a b c ∷ hasLength r (4 * m) ∷ hasLength x (4 * n) ∷ hasLength w (4 * k) ∷ hasLength item (itemSize m n) ∷ []) h in
       record {
@@ -43,14 +45,10 @@ module _ (m n k : ℕ) (a b c r x w item : List ℕ) where
         item-length = eqb-true (length item) (itemSize m n) (t .1 .1 .1 .1 .1 .0);
       }
 
-  pub cast-below : (circuitBelow a b c && elementsBelow r && elementsBelow x && elementsBelow w) ≡ true → (elementsBelow r ≡ true) × (elementsBelow x ≡ true) × (elementsBelow w ≡ true)
-  cast-below h =
-      let t = each-true (circuitBelow a b c) (elementsBelow r ∷ elementsBelow x ∷ elementsBelow w ∷ []) h in
-      (t .1 .0, t .1 .1 .0, t .1 .1 .1 .0)
-
-  -- Where the answer is 0.
-  pub cast-accepted : answer (castChecks m n k a b c r x w item) ≡ 0 → CastFits m n k r x w item × ((elementsBelow r ≡ true) × (elementsBelow x ≡ true) × (elementsBelow w ≡ true))
-  cast-accepted e = let t = answer-passed (castChecks m n k a b c r x w item) (omega arith) e in (cast-fits (t .0), cast-below (t .1 .0))
+pub cast-below : (a b c r x w : List ℕ) → (circuitBelow a b c && elementsBelow r && elementsBelow x && elementsBelow w) ≡ true → CastBelow r x w
+cast-below a b c r x w h =
+    let t = each-true (circuitBelow a b c) (elementsBelow r ∷ elementsBelow x ∷ elementsBelow w ∷ []) h in
+    record { r-below = t .1 .0; x-below = t .1 .1 .0; w-below = t .1 .1 .1 .0 }
 
 -- ---- check 11: e is 0
 

@@ -1,3 +1,2 @@
 pub mod CastLaws
 pub mod DecideLaws
-pub mod Sized

@@ -7,9 +7,8 @@ ghost use lib.ListN.{length};
 ghost use Rattle.numbers.specs.Numbers.{numbers};
 ghost use Rattle.code.specs.Points.{isWitnessCount};
 ghost use Rattle.theory.specs.Checks.{answer};
-ghost use Rattle.theory.specs.Buffers.{elements, circuit, itemSize, itemBytes};
-ghost use Rattle.theory.specs.Sizes.{sizes, circuitFits, hasLength, circuitBelow, elementsBelow, circuitInOrder};
-ghost use Rattle.theory.specs.Calls.{holds, castChecks, castItem, cast};
+ghost use Rattle.theory.specs.Sizes.{circuitBelow, elementsBelow, circuitInOrder};
+ghost use Rattle.theory.specs.Fp.{elements, circuit, itemSize, itemBytes, holds, castFits, castChecks, castItem, cast};
 use checks::item;
 
 // Check 2.
@@ -25,14 +24,14 @@ fn fits(
     w: &[u8],
     item: &[u8],
 ) -> bool
-    ensures { λ res. ⌜ res ≡ (sizes m n k && circuitFits (now (a .entry)) (now (b .entry)) (now (c .entry)) && hasLength (now (r .entry)) (4 * m) && hasLength (now (x .entry)) (4 * n) && hasLength (now (w .entry)) (4 * k) && hasLength (now (item .entry)) (itemSize m n)) ⌝ }
+    ensures { λ res. ⌜ res ≡ castFits m n k (now (a .entry)) (now (b .entry)) (now (c .entry)) (now (r .entry)) (now (x .entry)) (now (w .entry)) (now (item .entry)) ⌝ }
 {
     checks::sizes::sizes(m, n, k)
         & checks::sizes::circuit_fits(a, b, c)
         & (r.len() == 4 * (m as usize))
         & (x.len() == 4 * (n as usize))
         & (w.len() == 4 * (k as usize))
-        & (item.len() == 4 + 4 * (m as usize) + 4 * (n as usize) + 32)
+        & (item.len() == item::size(m as usize, n as usize))
 }
 
 // Check 3.

@@ -9,10 +9,10 @@ use lib.Dec.{lit≤}
 use lib.ListN.{length, getD, length-map}
 use Rattle.algebra.specs.Lists.{concatTo}
 use Rattle.algebra.proofs.ListLaws.{getD-map}
-use Rattle.numbers.specs.Numbers.{numbers, allBelow}
+use Rattle.numbers.specs.Numbers.{numbers, bytes, allBelow}
 use Rattle.numbers.proofs.Bytes.{length-numbers}
 use Rattle.numbers.proofs.Bounds.{below}
-use Rattle.field.specs.BabyBear.{babyBear, F, val, 𝟘}
+use Rattle.field.specs.BabyBear.{F, val, 𝟘}
 use Rattle.hash.specs.Sha256.{digest}
 use Rattle.tree.specs.Merkle.{path}
 use Rattle.tree.specs.Layout.{openingSize, flat, openingBytes, ownOpening, ownOpenings}
@@ -20,10 +20,10 @@ use Rattle.code.specs.Points.{isWitnessCount, depth}
 use Rattle.code.proofs.Numbers.{codeword-numbers-length}
 use Rattle.code.proofs.Sizes.{for-witness-counts, depth-leaves}
 use Rattle.checks.proofs.WitnessLaws.{entries-leaves}
-use Rattle.theory.specs.Items.{leaves}
-use Rattle.theory.specs.Instance.{sha, codewordOf}
+use Rattle.theory.specs.Folds.{Opening}
 use Rattle.theory.specs.Sizes.{positionsBelow}
-use Rattle.theory.specs.Calls.{openingsOf}
+use Rattle.theory.specs.Buffers as buffers
+use Rattle.theory.specs.Fp.{fp, codewordOf, openingOf, openingsOf}
 
 -- A tree over a codeword has at most 8 levels.
 pub depth-few : (k : ℕ) → isWitnessCount k ≡ true → depth k ≤ 8
@@ -38,6 +38,11 @@ flat-concat zero (i ∷ is) f g h e = absurd (omega arith)
 flat-concat (suc t) [] f g h e = absurd (omega arith)
 flat-concat (suc t) (i ∷ is) f g h e =
     ap₂ _++_ (e 0 (omega arith)) (flat-concat t is f (λ q. g (suc q)) (omega arith) (λ q l. e (suc q) (omega arith)))
+
+-- The bytes of an opening by the number of its value.
+opening-bytes : (o : Opening F) → openingBytes (val (o .value)) (o .siblings) ≡ buffers.openingBytes fp o
+unfolding bytes
+opening-bytes o = refl
 
 -- The bytes of the openings fit a number of 64 bits.
 pub openings-small : (t d : ℕ) → t < 4294967296 → d ≤ 8 → t * openingSize d ≤ 1116691496700
@@ -55,12 +60,13 @@ module _ (k t : ℕ) (positions : List ℕ) (long : length positions ≡ 4 * t) 
         ap₂ (λ (n : ℕ) (vs : List ℕ). ownOpenings digest n vs (numbers positions)) deep read
         ∙ flat-concat t (numbers positions) (ownOpening digest (depth k) (map val (codewordOf k es))) _ counted each
       where
-        each : (q : ℕ) → q < t → ownOpening digest (depth k) (map val (codewordOf k es)) (getD (numbers positions) q 0)
-            ≡ openingBytes (val (getD (codewordOf k es) (getD (numbers positions) q 0) 𝟘)) (path digest (depth k) (leaves babyBear sha (codewordOf k es)) (getD (numbers positions) q 0))
-        each q h = ap₂ (λ (v : ℕ) (ds : List (List ℕ)). openingBytes v (path digest (depth k) ds (getD (numbers positions) q 0)))
+        each : (q : ℕ) → q < t → ownOpening digest (depth k) (map val (codewordOf k es)) (getD (numbers positions) q 0) ≡ buffers.openingBytes fp (openingOf k es (getD (numbers positions) q 0))
+        each q h =
+            ap₂ (λ (v : ℕ) (ds : List (List ℕ)). openingBytes v (path digest (depth k) ds (getD (numbers positions) q 0)))
             (getD-map val (codewordOf k es) (getD (numbers positions) q 0) 𝟘 0
             (omega (arith, below (4 * k) (numbers positions) small q (omega (arith, counted)), codeword-numbers-length k es, length-map (codewordOf k es) val)))
             (entries-leaves (codewordOf k es))
+            ∙ opening-bytes (openingOf k es (getD (numbers positions) q 0))
 
   -- What the tree's writer asks of the positions and of the buffer.
   pub positions-inside : isWitnessCount k ≡ true → allBelow (2 ^ d) (numbers positions) ≡ true

@@ -1,21 +1,22 @@
 // Encoding: writes a witness's codeword and its root. Checks 2 and 3.
 ghost use mathlib.Core.Path.{_≡_};
-ghost use mathlib.Core.Bool.{true, _&&_};
+ghost use mathlib.Core.Bool.{true};
 ghost use Prim.Native.Nat.{_*_};
 ghost use lib.ListN.{length};
 ghost use Rattle.code.specs.Points.{isWitnessCount};
 ghost use Rattle.theory.specs.Checks.{answer};
-ghost use Rattle.theory.specs.Instance.{codewordOf, witnessRoot};
-ghost use Rattle.theory.specs.Buffers.{elements, elementBytes};
-ghost use Rattle.theory.specs.Sizes.{hasLength, elementsBelow};
-ghost use Rattle.theory.specs.Calls.{encodeChecks, encode};
+ghost use Rattle.theory.specs.Sizes.{elementsBelow};
+ghost use Rattle.theory.specs.Fp.{codewordOf, witnessRoot, elements, elementBytes, encodeFits, encodeChecks, encode};
 
 // Check 2.
 fn fits(k: u32, w: &[u8], code: &[u8], root: &[u8]) -> bool
-    ensures { λ r. ⌜ r ≡ (isWitnessCount k && hasLength (now (w .entry)) (4 * k) && hasLength (now (code .entry)) (16 * k) && hasLength (now (root .entry)) 32) ⌝ }
+    ensures { λ r. ⌜ r ≡ encodeFits k (now (w .entry)) (now (code .entry)) (now (root .entry)) ⌝ }
 {
     let n = k as usize;
-    code::is_witness_count(k) & (w.len() == 4 * n) & (code.len() == 16 * n) & (root.len() == 32)
+    code::is_witness_count(k)
+        & (w.len() == 4 * n)
+        & (code.len() == 4 * (4 * n))
+        & (root.len() == 32)
 }
 
 // Checks 2 and 3, in this order.
@@ -33,7 +34,7 @@ fn verdict(k: u32, w: &[u8], code: &[u8], root: &[u8]) -> u32
 
 // Writes the codeword and the root; values is lent for the codeword's numbers.
 fn write_in(k: usize, w: &[u8], values: &mut [u32], code: &mut [u8], root: &mut [u8])
-    requires { ⌜ (isWitnessCount k ≡ true) × (length (now w) ≡ 4 * k) × (elementsBelow (now w) ≡ true) × (length (now values) ≡ 4 * k) × (length (now code) ≡ 16 * k) × (length (now root) ≡ 32) ⌝ }
+    requires { ⌜ (isWitnessCount k ≡ true) × (length (now w) ≡ 4 * k) × (elementsBelow (now w) ≡ true) × (length (now values) ≡ 4 * k) × (length (now code) ≡ 4 * (4 * k)) × (length (now root) ≡ 32) ⌝ }
     ensures { λ _. ⌜ now (code .exit) ≡ elementBytes (codewordOf k (elements k (now (w .entry)))) ⌝ }
     ensures { λ _. ⌜ now (root .exit) ≡ witnessRoot k (elements k (now (w .entry))) ⌝ }
 {
@@ -45,7 +46,7 @@ fn write_in(k: usize, w: &[u8], values: &mut [u32], code: &mut [u8], root: &mut 
 
 // Writes the codeword and the root.
 fn write(k: usize, w: &[u8], code: &mut [u8], root: &mut [u8])
-    requires { ⌜ (isWitnessCount k ≡ true) × (length (now w) ≡ 4 * k) × (elementsBelow (now w) ≡ true) × (length (now code) ≡ 16 * k) × (length (now root) ≡ 32) ⌝ }
+    requires { ⌜ (isWitnessCount k ≡ true) × (length (now w) ≡ 4 * k) × (elementsBelow (now w) ≡ true) × (length (now code) ≡ 4 * (4 * k)) × (length (now root) ≡ 32) ⌝ }
     ensures { λ _. ⌜ now (code .exit) ≡ elementBytes (codewordOf k (elements k (now (w .entry)))) ⌝ }
     ensures { λ _. ⌜ now (root .exit) ≡ witnessRoot k (elements k (now (w .entry))) ⌝ }
 {

@@ -1,19 +1,18 @@
 // Opening: the openings of one witness at a list of positions. Checks 2, 3 and 6.
 ghost use mathlib.Core.Path.{_≡_};
-ghost use mathlib.Core.Bool.{true, _&&_};
+ghost use mathlib.Core.Bool.{true};
 ghost use Prim.Native.Nat.{_*_};
 ghost use lib.ListN.{length};
 ghost use Rattle.numbers.specs.Numbers.{numbers};
 ghost use Rattle.tree.specs.Layout.{openingSize};
 ghost use Rattle.code.specs.Points.{isWitnessCount, depth};
 ghost use Rattle.theory.specs.Checks.{answer};
-ghost use Rattle.theory.specs.Buffers.{elements};
-ghost use Rattle.theory.specs.Sizes.{hasLength, positionCountFits, elementsBelow, positionsBelow};
-ghost use Rattle.theory.specs.Calls.{openChecks, openingsOf, «open»};
+ghost use Rattle.theory.specs.Sizes.{elementsBelow, positionsBelow};
+ghost use Rattle.theory.specs.Fp.{elements, openFits, openChecks, openingsOf, «open»};
 
 // Check 2.
 fn fits(k: u32, t: u32, w: &[u8], positions: &[u8], openings: &[u8]) -> bool
-    ensures { λ r. ⌜ r ≡ (isWitnessCount k && positionCountFits k t && hasLength (now (w .entry)) (4 * k) && hasLength (now (positions .entry)) (4 * t) && hasLength (now (openings .entry)) (t * openingSize (depth k))) ⌝ }
+    ensures { λ r. ⌜ r ≡ openFits k t (now (w .entry)) (now (positions .entry)) (now (openings .entry)) ⌝ }
 {
     if !code::is_witness_count(k) {
         return false;

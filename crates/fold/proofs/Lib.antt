@@ -7,6 +7,6 @@ pub mod Newton
 pub mod Interpolation
 pub mod Reading
 pub mod Mixing
-pub mod Lent
+pub mod Scratch
 pub mod Quotients
 pub mod NewItem

@@ -12,10 +12,10 @@ use Rattle.field.specs.Numbers.{Below}
 use Rattle.field.proofs.Laws.{ofℕ-val, below-p}
 use Rattle.theory.specs.R1cs.{weightedSum}
 use Rattle.theory.specs.Combination.{L, mix, mixLists, itemAt, newR, newX, newW, mixE, combinedValue}
-use Rattle.theory.specs.Buffers.{elementAt, circuit, itemSize, readItems, readWitness}
+use Rattle.theory.specs.Fp.{elementAt, circuit, itemSize, readItems, readWitness}
 use Rattle.fold.specs.Weights.{lagrangeAt, weighted, weightedFrom}
 use Rattle.fold.specs.Fits.{Fits}
-use Rattle.fold.proofs.Reading.{length-items, item-inside, item-e, item-r, item-x, witness-w}
+use Rattle.fold.proofs.Reading.{length-items, numbers-first, item-inside, item-e, item-r, item-x, witness-w}
 
 -- ---- sums for numbers from a place on
 
@@ -59,31 +59,31 @@ module _ (l at : ℕ) {weights : List ℕ} (w : weights ≡ lagrangeAt l at) whe
       (λ b h. ofℕ-val (weighted weights buffer stride (start + b)) ∙ weighted-mix buffer stride (start + b) (λ i. getD (lists i) b 𝟘) (λ i g. e i g b h))
 
   -- The combined e's, r's, x's and w's.
-  module _ (m n : ℕ) (items : List ℕ) (sized : length items ≡ l * itemSize m n) where
-    pub e-inside : (i : ℕ) → i < length weights → 4 * (i * (9 + m + n) + 0) + 4 ≤ length items
-    e-inside i g = omega (arith, item-inside m n l items sized i (rw length-weights at g))
+  module _ (m n stride : ℕ) (items : List ℕ) (layout : 4 * stride ≡ itemSize m n) (sized : length items ≡ l * itemSize m n) where
+    pub e-inside : (i : ℕ) → i < length weights → 4 * (i * stride + 0) + 4 ≤ length items
+    e-inside i g = omega (arith, numbers-first m n l stride items layout sized, item-inside m n l stride items layout sized i (rw length-weights at g))
 
-    pub mixed-e : weighted weights items (9 + m + n) 0 ≡ mixE babyBear (readItems m n l items) (ofℕ at)
-    mixed-e = weighted-mix items (9 + m + n) 0 (λ i. itemAt babyBear (readItems m n l items) i .e) (item-e m n l items sized)
+    pub mixed-e : weighted weights items stride 0 ≡ mixE babyBear (readItems m n l items) (ofℕ at)
+    mixed-e = weighted-mix items stride 0 (λ i. itemAt babyBear (readItems m n l items) i .e) (item-e m n l stride items layout sized)
         ∙ ap (λ (s : ℕ). mix babyBear s (λ i. itemAt babyBear (readItems m n l items) i .e) (ofℕ at)) (sym (length-items m n l items))
 
-    pub mixed-r : map ofℕ (weightedFrom weights items (9 + m + n) 1 m) ≡ newR babyBear m (readItems m n l items) (ofℕ at)
-    mixed-r = weightedFrom-mix items (9 + m + n) 1 m (λ i. itemAt babyBear (readItems m n l items) i .r) (item-r m n l items sized)
+    pub mixed-r : map ofℕ (weightedFrom weights items stride 1 m) ≡ newR babyBear m (readItems m n l items) (ofℕ at)
+    mixed-r = weightedFrom-mix items stride 1 m (λ i. itemAt babyBear (readItems m n l items) i .r) (item-r m n l stride items layout sized)
         ∙ ap (λ (s : ℕ). mixLists babyBear m s (λ i. itemAt babyBear (readItems m n l items) i .r) (ofℕ at)) (sym (length-items m n l items))
 
-    pub mixed-x : map ofℕ (weightedFrom weights items (9 + m + n) (1 + m) n) ≡ newX babyBear n (readItems m n l items) (ofℕ at)
-    mixed-x = weightedFrom-mix items (9 + m + n) (1 + m) n (λ i. itemAt babyBear (readItems m n l items) i .x) (item-x m n l items sized)
+    pub mixed-x : map ofℕ (weightedFrom weights items stride (1 + m) n) ≡ newX babyBear n (readItems m n l items) (ofℕ at)
+    mixed-x = weightedFrom-mix items stride (1 + m) n (λ i. itemAt babyBear (readItems m n l items) i .x) (item-x m n l stride items layout sized)
         ∙ ap (λ (s : ℕ). mixLists babyBear n s (λ i. itemAt babyBear (readItems m n l items) i .x) (ofℕ at)) (sym (length-items m n l items))
 
   pub mixed-w : (k : ℕ) (wits : List ℕ) → length wits ≡ l * (4 * k) → map ofℕ (weightedFrom weights wits k 0 k) ≡ newW babyBear k l (readWitness k wits) (ofℕ at)
   mixed-w k wits sized = weightedFrom-mix wits k 0 k (readWitness k wits) (witness-w k l wits sized)
 
   -- The value at the combined r, x and w.
-  pub combined-is : {m n k : ℕ} {a b c items wits r z : List ℕ} → Fits m n k l a b c items wits → r ≡ weightedFrom weights items (9 + m + n) 1 m
-      → z ≡ weightedFrom weights items (9 + m + n) (1 + m) n ++ weightedFrom weights wits k 0 k
+  pub combined-is : {m n k : ℕ} {a b c items wits r z : List ℕ} → Fits m n k l a b c items wits → (stride : ℕ) → 4 * stride ≡ itemSize m n → r ≡ weightedFrom weights items stride 1 m
+      → z ≡ weightedFrom weights items stride (1 + m) n ++ weightedFrom weights wits k 0 k
       → val (weightedSum R (circuit a b c) (map ofℕ r) (map ofℕ z)) ≡ val (combinedValue babyBear (circuit a b c) m n k (readItems m n l items) (readWitness k wits) (ofℕ at))
-  combined-is {m} {n} {k} {a} {b} {c} {items} {wits} f er ez =
-      ap₂ (λ (s t : List F). val (weightedSum R (circuit a b c) s t)) (ap (map ofℕ) er ∙ mixed-r m n items (f .items-size))
-      (ap (map ofℕ) ez ∙ map-append ofℕ (weightedFrom weights items (9 + m + n) (1 + m) n) (weightedFrom weights wits k 0 k)
-      ∙ ap₂ (λ (s t : List F). s ++ t) (mixed-x m n items (f .items-size))
+  combined-is {m} {n} {k} {a} {b} {c} {items} {wits} f stride layout er ez =
+      ap₂ (λ (s t : List F). val (weightedSum R (circuit a b c) s t)) (ap (map ofℕ) er ∙ mixed-r m n stride items layout (f .items-size))
+      (ap (map ofℕ) ez ∙ map-append ofℕ (weightedFrom weights items stride (1 + m) n) (weightedFrom weights wits k 0 k)
+      ∙ ap₂ (λ (s t : List F). s ++ t) (mixed-x m n stride items layout (f .items-size))
       (mixed-w k wits (f .wits-size) ∙ ap (λ (s : ℕ). newW babyBear k s (readWitness k wits) (ofℕ at)) (sym (length-items m n l items))))

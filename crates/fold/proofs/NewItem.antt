@@ -1,6 +1,6 @@
 -- The new item's numbers: the combination of the items' numbers, with the new e in the first place.
-use mathlib.Core.Path.{_≡_, refl, sym, ap, ap₂, _∙_}
-use mathlib.Core.List.{List, [], _∷_, _++_, map, map-append}
+use mathlib.Core.Path.{_≡_, sym, ap, ap₂, _∙_}
+use mathlib.Core.List.{List, _∷_, _++_, map, map-append}
 use Prim.Native.Nat.{ℕ, zero, suc, _+_, _*_, _≤_, _<_}
 use native.Mathlib.Nat.{zero-add, suc-add}
 use native.Mathlib.Omega.{arith}
@@ -11,9 +11,9 @@ use Rattle.field.specs.BabyBear.{babyBear, F, val, ofℕ}
 use Rattle.field.proofs.Numbers.{numbers-of-elements}
 use Rattle.theory.specs.Items.{Item}
 use Rattle.theory.specs.Combination.{newE, newR, newX}
-use Rattle.theory.specs.Buffers.{itemSize, readItems}
+use Rattle.theory.specs.Fp.{itemSize, readItems}
 use Rattle.fold.specs.Weights.{lagrangeAt, weighted, weightedFrom}
-use Rattle.fold.proofs.Reading.{item-inside}
+use Rattle.fold.proofs.Reading.{numbers-first, item-inside}
 use Rattle.fold.proofs.Mixing.{length-weights, weightedFrom-below, mixed-r, mixed-x}
 
 -- A list made from a function of the index, in two parts.
@@ -24,29 +24,29 @@ build-append {A} (suc m) n f =
     ∙ ap (λ (t : List A). f 0 ∷ t) (build-append m n (λ i. f (suc i))
     ∙ ap (λ (t : List A). build m (λ i. f (suc i)) ++ t) (build-cong n (λ i. f (suc (m + i))) (λ i. f (suc m + i)) (λ i h. ap f (sym (suc-add m i)))))
 
-module _ (m n l at : ℕ) (items : List ℕ) (sized : length items ≡ l * itemSize m n) {weights : List ℕ} (w : weights ≡ lagrangeAt l at) where
+module _ (m n l stride at : ℕ) (items : List ℕ) (layout : 4 * stride ≡ itemSize m n) (sized : length items ≡ l * itemSize m n) {weights : List ℕ} (w : weights ≡ lagrangeAt l at) where
   abbrev batch : List (Item F)
   batch = readItems m n l items
 
   -- The numbers that are combined lie in the buffer.
-  pub numbers-inside : (s : ℕ) → s ≡ 1 + m + n → (i : ℕ) → i < length weights → 4 * (i * (9 + m + n) + 0 + s) ≤ length items
-  numbers-inside s e i h = omega (arith, e, item-inside m n l items sized i (rw (length-weights l at w) at h))
+  pub numbers-inside : (s : ℕ) → s ≡ 1 + m + n → (i : ℕ) → i < length weights → 4 * (i * stride + 0 + s) ≤ length items
+  numbers-inside s e i h = omega (arith, e, numbers-first m n l stride items layout sized, item-inside m n l stride items layout sized i (rw (length-weights l at w) at h))
 
-  rs : map val (newR babyBear m batch (ofℕ at)) ≡ weightedFrom weights items (9 + m + n) 1 m
-  rs = ap (map val) (sym (mixed-r l at w m n items sized)) ∙ numbers-of-elements (weightedFrom weights items (9 + m + n) 1 m) (weightedFrom-below weights items (9 + m + n) 1 m)
+  rs : map val (newR babyBear m batch (ofℕ at)) ≡ weightedFrom weights items stride 1 m
+  rs = ap (map val) (sym (mixed-r l at w m n stride items layout sized)) ∙ numbers-of-elements (weightedFrom weights items stride 1 m) (weightedFrom-below weights items stride 1 m)
 
-  xs : map val (newX babyBear n batch (ofℕ at)) ≡ weightedFrom weights items (9 + m + n) (1 + m) n
-  xs = ap (map val) (sym (mixed-x l at w m n items sized)) ∙ numbers-of-elements (weightedFrom weights items (9 + m + n) (1 + m) n) (weightedFrom-below weights items (9 + m + n) (1 + m) n)
+  xs : map val (newX babyBear n batch (ofℕ at)) ≡ weightedFrom weights items stride (1 + m) n
+  xs = ap (map val) (sym (mixed-x l at w m n stride items layout sized)) ∙ numbers-of-elements (weightedFrom weights items stride (1 + m) n) (weightedFrom-below weights items stride (1 + m) n)
 
   -- All of them, and then the new e.
-  whole : (e : ℕ) → set (weightedFrom weights items (9 + m + n) 0 (suc (m + n))) 0 e
-      ≡ e ∷ (weightedFrom weights items (9 + m + n) 1 m ++ weightedFrom weights items (9 + m + n) (1 + m) n)
+  whole : (e : ℕ) → set (weightedFrom weights items stride 0 (suc (m + n))) 0 e
+      ≡ e ∷ (weightedFrom weights items stride 1 m ++ weightedFrom weights items stride (1 + m) n)
   unfolding weightedFrom
   whole e = ap (λ (t : List ℕ). e ∷ t) (build-append m n (λ b. f (0 + suc b))
       ∙ ap₂ (λ (s t : List ℕ). s ++ t) (build-cong m (λ b. f (0 + suc b)) (λ b. f (1 + b)) first) (build-cong n (λ b. f (0 + suc (m + b))) (λ b. f (1 + m + b)) second))
     where
       f : ℕ → ℕ
-      f j = val (weighted weights items (9 + m + n) j)
+      f j = val (weighted weights items stride j)
 
       first : (b : ℕ) → b < m → f (0 + suc b) ≡ f (1 + b)
       first b h = let g : 0 + suc b ≡ 1 + b = omega arith in ap f g
@@ -54,12 +54,12 @@ module _ (m n l at : ℕ) (items : List ℕ) (sized : length items ≡ l * itemS
       second : (b : ℕ) → b < n → f (0 + suc (m + b)) ≡ f (1 + m + b)
       second b h = let g : 0 + suc (m + b) ≡ 1 + m + b = omega arith in ap f g
 
-  pub new-numbers : (quotient : List F) {combined : List ℕ} {s e : ℕ} → s ≡ 1 + m + n → combined ≡ weightedFrom weights items (9 + m + n) 0 s
+  pub new-numbers : (quotient : List F) {combined : List ℕ} {s e : ℕ} → s ≡ 1 + m + n → combined ≡ weightedFrom weights items stride 0 s
       → e ≡ val (newE babyBear batch quotient (ofℕ at))
       → set combined 0 e ≡ map val (newE babyBear batch quotient (ofℕ at) ∷ newR babyBear m batch (ofℕ at) ++ newX babyBear n batch (ofℕ at))
   new-numbers quotient {combined} {s} {e} es ec ee =
       let size : s ≡ suc (m + n) = omega (arith, es) in
-      ap₂ (λ (t : List ℕ) (x : ℕ). set t 0 x) (ec ∙ ap (weightedFrom weights items (9 + m + n) 0) size) ee
+      ap₂ (λ (t : List ℕ) (x : ℕ). set t 0 x) (ec ∙ ap (weightedFrom weights items stride 0) size) ee
       ∙ whole (val (newE babyBear batch quotient (ofℕ at)))
       ∙ ap (λ (t : List ℕ). val (newE babyBear batch quotient (ofℕ at)) ∷ t)
       (sym (map-append val (newR babyBear m batch (ofℕ at)) (newX babyBear n batch (ofℕ at)) ∙ ap₂ (λ (s t : List ℕ). s ++ t) rs xs))

@@ -1,4 +1,4 @@
--- The quotient's values beside the nodes, and its coefficients.
+-- The quotient's values outside the nodes, and its coefficients.
 use mathlib.Core.Path.{_≡_, sym, ap, ap₂, subst, _∙_}
 use mathlib.Core.List.{List, map}
 use Prim.Native.Nat.{ℕ, _+_, _*_, _-_, _≤_}
@@ -17,7 +17,7 @@ use Rattle.field.proofs.Chains.{sum-of, difference-of, product-of}
 use Rattle.code.specs.Codeword.{valueAt}
 use Rattle.code.proofs.Evaluation.{valueAt-evalPoly}
 use Rattle.theory.specs.Combination.{node, Z, mixE, newE, combinedValue, quotientSize, quotientOf}
-use Rattle.theory.specs.Buffers.{circuit, itemSize, readItems, readWitness}
+use Rattle.theory.specs.Fp.{circuit, itemSize, readItems, readWitness}
 use Rattle.fold.specs.Weights.{lagrangeAt, weighted}
 use Rattle.fold.specs.Fits.{Fits, quotientAt}
 use Rattle.fold.proofs.Reading.{length-items}
@@ -62,7 +62,7 @@ pub inverses-many : {inverses : List ℕ} → inverses ≡ smallInverses → 64 
 unfolding smallInverses
 inverses-many e = sym (ap length e)
 
--- ---- one value, with the weights in a list w₀ that is lent
+-- ---- one value, with the weights in a scratch list that was w₀
 
 module _ {m n k l : ℕ} {a b c items wits : List ℕ} (f : Fits m n k l a b c items wits) (at : ℕ) (w₀ : List ℕ) {weights : List ℕ} (h : length w₀ ≡ l) (e : weights ≡ lagrangeAt (length w₀) at) where
   pub weights-are : weights ≡ lagrangeAt l at
@@ -77,27 +77,27 @@ module _ {m n k l : ℕ} {a b c items wits : List ℕ} (f : Fits m n k l a b c i
     weights-are ∙ ap (λ (s : ℕ). lagrangeAt s at) (sym weights-many),
   )
 
-  pub quotient-value-is : {value mixed difference inverse result : ℕ}
+  pub quotient-value-is : (stride : ℕ) → 4 * stride ≡ itemSize m n → {value mixed difference inverse result : ℕ}
       → value ≡ val (combinedValue babyBear (circuit a b c) m n k (readItems m n (length weights) items) (readWitness k wits) (ofℕ at))
-      → mixed ≡ val (weighted weights items (9 + m + n) 0) → difference ≡ val (ofℕ value ⊖ ofℕ mixed) → inverse ≡ val (inv (Z babyBear l (ofℕ at)))
+      → mixed ≡ val (weighted weights items stride 0) → difference ≡ val (ofℕ value ⊖ ofℕ mixed) → inverse ≡ val (inv (Z babyBear l (ofℕ at)))
       → result ≡ val (ofℕ difference ⊗ ofℕ inverse) → result ≡ val (quotientAt m n k l a b c items wits (ofℕ at))
-  quotient-value-is ev em ed ei er =
+  quotient-value-is stride layout ev em ed ei er =
       product-of (combined ⊖ mixE babyBear (readItems m n l items) (ofℕ at)) (inv (Z babyBear l (ofℕ at)))
       (difference-of combined (mixE babyBear (readItems m n l items) (ofℕ at))
       (ev ∙ ap (λ (s : ℕ). val (combinedValue babyBear (circuit a b c) m n k (readItems m n s items) (readWitness k wits) (ofℕ at))) weights-many)
-      (em ∙ ap val (mixed-e l at weights-are m n items (f .items-size))) ed) ei er
+      (em ∙ ap val (mixed-e l at weights-are m n stride items layout (f .items-size))) ed) ei er
     where
       combined : F
       combined = combinedValue babyBear (circuit a b c) m n k (readItems m n l items) (readWitness k wits) (ofℕ at)
 
 -- ---- the new e
 
-pub new-e-is : (m n l at : ℕ) (items quotient : List ℕ) {weights : List ℕ} → length items ≡ l * itemSize m n → weights ≡ lagrangeAt l at → {mixed vanishing value product result : ℕ}
-    → mixed ≡ val (weighted weights items (9 + m + n) 0) → vanishing ≡ val (Z babyBear l (ofℕ at)) → value ≡ val (valueAt R (map ofℕ quotient) (ofℕ at))
+pub new-e-is : (m n l stride at : ℕ) (items quotient : List ℕ) {weights : List ℕ} → 4 * stride ≡ itemSize m n → length items ≡ l * itemSize m n → weights ≡ lagrangeAt l at → {mixed vanishing value product result : ℕ}
+    → mixed ≡ val (weighted weights items stride 0) → vanishing ≡ val (Z babyBear l (ofℕ at)) → value ≡ val (valueAt R (map ofℕ quotient) (ofℕ at))
     → product ≡ val (ofℕ vanishing ⊗ ofℕ value) → result ≡ val (ofℕ mixed ⊕ ofℕ product)
     → result ≡ val (newE babyBear (readItems m n l items) (map ofℕ quotient) (ofℕ at))
-new-e-is m n l at items quotient sized w em ez ev ep er =
-    sum-of mixes (Z babyBear l (ofℕ at) ⊗ here) (em ∙ ap val (mixed-e l at w m n items sized))
+new-e-is m n l stride at items quotient layout sized w em ez ev ep er =
+    sum-of mixes (Z babyBear l (ofℕ at) ⊗ here) (em ∙ ap val (mixed-e l at w m n stride items layout sized))
     (product-of (Z babyBear l (ofℕ at)) here ez (ev ∙ ap val (valueAt-evalPoly R (map ofℕ quotient) (ofℕ at))) ep) er
     ∙ ap (λ (s : ℕ). val (mixes ⊕ Z babyBear s (ofℕ at) ⊗ here)) (sym (length-items m n l items))
   where

@@ -12,7 +12,8 @@ use Rattle.numbers.proofs.Bytes.{numbers-take, numbers-drop}
 use Rattle.field.specs.BabyBear.{babyBear, F, ofℕ, 𝟘}
 use Rattle.theory.specs.Items.{Item}
 use Rattle.theory.specs.Combination.{blank, itemAt}
-use Rattle.theory.specs.Buffers.{numberAt, elementAt, itemSize, itemPart, readItem, readItems, witnessPart, readWitness}
+use Rattle.theory.specs.Buffers.{numberAt}
+use Rattle.theory.specs.Fp.{elementAt, itemSize, itemPart, readItem, readItems, witnessPart, readWitness}
 
 -- ---- l parts of s numbers
 
@@ -30,38 +31,41 @@ module _ (b : List ℕ) (l s : ℕ) (sized : length b ≡ l * (4 * s)) (i : ℕ)
       left : 4 * s ≤ length (drop (4 * (i * s)) b)
       left = simp length-drop (omega (arith, part-inside))
 
-pub item-numbers : (m n : ℕ) → itemSize m n ≡ 4 * (9 + m + n)
-item-numbers m n = omega arith
-
--- ---- the items of a buffer of l
+-- ---- the items of a buffer of l, `stride` numbers from one to the next
 
 pub length-items : (m n l : ℕ) (items : List ℕ) → length (readItems m n l items) ≡ l
 length-items m n l items = length-build l (λ i. readItem m n (itemPart m n items i))
 
-module _ (m n l : ℕ) (items : List ℕ) (sized : length items ≡ l * itemSize m n) where
-  items-sized : length items ≡ l * (4 * (9 + m + n))
-  items-sized = sized ∙ ap (λ (s : ℕ). l * s) (item-numbers m n)
+module _ (m n l stride : ℕ) (items : List ℕ) (layout : 4 * stride ≡ itemSize m n) (sized : length items ≡ l * itemSize m n) where
+  items-sized : length items ≡ l * (4 * stride)
+  items-sized = sized ∙ ap (λ (s : ℕ). l * s) (sym layout)
+
+  -- An item's e, r and x are its first numbers.
+  pub numbers-first : 1 + m + n ≤ stride
+  numbers-first = omega (arith, layout)
 
   module _ (i : ℕ) (h : i < l) where
-    pub item-inside : 4 * (i * (9 + m + n) + (9 + m + n)) ≤ length items
-    item-inside = part-inside items l (9 + m + n) items-sized i h
+    pub item-inside : 4 * (i * stride + stride) ≤ length items
+    item-inside = part-inside items l stride items-sized i h
 
-    item-number : (j : ℕ) → j < 9 + m + n → numberAt (itemPart m n items i) j ≡ numberAt items (i * (9 + m + n) + j)
-    item-number j g = ap (λ (s : ℕ). numberAt (take s (drop (i * s) items)) j) (item-numbers m n) ∙ part-number items l (9 + m + n) items-sized i h j g
+    item-number : (j : ℕ) → j < 1 + m + n → numberAt (itemPart m n items i) j ≡ numberAt items (i * stride + j)
+    item-number j g =
+        ap (λ (s : ℕ). numberAt (take s (drop (i * s) items)) j) (sym layout)
+        ∙ part-number items l stride items-sized i h j (omega (arith, numbers-first))
 
     item-at : itemAt babyBear (readItems m n l items) i ≡ readItem m n (itemPart m n items i)
     unfolding itemAt
     item-at = getD-build l (λ i. readItem m n (itemPart m n items i)) i (blank babyBear) h
 
-    pub item-e : itemAt babyBear (readItems m n l items) i .e ≡ elementAt items (i * (9 + m + n) + 0)
+    pub item-e : itemAt babyBear (readItems m n l items) i .e ≡ elementAt items (i * stride + 0)
     item-e = ap (λ (it : Item F). it .e) item-at ∙ ap ofℕ (item-number 0 (omega arith))
 
-    pub item-r : (j : ℕ) → j < m → getD (itemAt babyBear (readItems m n l items) i .r) j 𝟘 ≡ elementAt items (i * (9 + m + n) + (1 + j))
+    pub item-r : (j : ℕ) → j < m → getD (itemAt babyBear (readItems m n l items) i .r) j 𝟘 ≡ elementAt items (i * stride + (1 + j))
     item-r j g = ap (λ (it : Item F). getD (it .r) j 𝟘) item-at
         ∙ getD-build m (λ j. elementAt (itemPart m n items i) (1 + j)) j 𝟘 g
         ∙ ap ofℕ (item-number (1 + j) (omega arith))
 
-    pub item-x : (j : ℕ) → j < n → getD (itemAt babyBear (readItems m n l items) i .x) j 𝟘 ≡ elementAt items (i * (9 + m + n) + (1 + m + j))
+    pub item-x : (j : ℕ) → j < n → getD (itemAt babyBear (readItems m n l items) i .x) j 𝟘 ≡ elementAt items (i * stride + (1 + m + j))
     item-x j g = ap (λ (it : Item F). getD (it .x) j 𝟘) item-at
         ∙ getD-build n (λ j. elementAt (itemPart m n items i) (1 + m + j)) j 𝟘 g
         ∙ ap ofℕ (item-number (1 + m + j) (omega arith))

@@ -5,7 +5,8 @@ use Prim.Native.Nat.{ℕ, _+_, _*_}
 use lib.ListN.{length, getD}
 use Rattle.algebra.specs.Sums.{sumTo}
 use Rattle.field.specs.BabyBear.{R, F, val, ofℕ, _⊗_}
-use Rattle.theory.specs.Buffers.{numberAt, elementAt}
+use Rattle.theory.specs.Buffers.{numberAt}
+use Rattle.theory.specs.Fp.{elementAt}
 use Rattle.fold.specs.Weights.{weighted}
 
 module _ (weights buffer : List ℕ) (stride at : ℕ) where

@@ -6,7 +6,7 @@ use Rattle.algebra.specs.Lists.{build}
 use Rattle.algebra.specs.Sums.{sumTo}
 use Rattle.field.specs.BabyBear.{babyBear, R, F, val, ofℕ, _⊗_}
 use Rattle.theory.specs.Combination.{L}
-use Rattle.theory.specs.Buffers.{elementAt}
+use Rattle.theory.specs.Fp.{elementAt}
 
 -- L_0 to L_(l - 1) at the challenge a.
 unfoldable pub lagrangeAt : ℕ → ℕ → List ℕ

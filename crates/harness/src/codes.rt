@@ -6,7 +6,8 @@ ghost use Rattle.numbers.specs.Numbers.{allBelow};
 ghost use Rattle.field.specs.BabyBear.{p, R, val, ofℕ};
 ghost use Rattle.code.specs.Codeword.{codeword};
 ghost use Rattle.code.specs.Points.{points};
-ghost use Rattle.harness.specs.Answers.{answer, written};
+ghost use Rattle.harness.specs.Answers.{permittedAnswer};
+ghost use Rattle.theory.specs.Checks.{written};
 ghost use Rattle.harness.specs.Permitted.{codewordSizes, codewordPermitted};
 
 // Whether all numbers are below p.
@@ -39,7 +40,7 @@ fn permitted(w: &[u32], out: usize) -> bool
 // Writes the codeword of w. Refuses sizes that do not fit, and numbers of p or more.
 #[no_mangle]
 pub extern "C" fn lomvuze_test_codeword(w: &[u32], out: &mut [u32]) -> u32
-    ensures answer { λ r. ⌜ r ≡ answer (codewordPermitted (now (w .entry)) (length (now (out .entry)))) ⌝ }
+    ensures answer { λ r. ⌜ r ≡ permittedAnswer (codewordPermitted (now (w .entry)) (length (now (out .entry)))) ⌝ }
     ensures out { λ r. ⌜ now (out .exit) ≡ written r (map val (codeword R (points (length (now (w .entry)))) (map ofℕ (now (w .entry))))) (now (out .entry)) ⌝ }
 {
     if !permitted(w, out.len()) {

@@ -3,7 +3,8 @@ ghost use mathlib.Core.Path.{_≡_};
 ghost use mathlib.Core.List.{_∷_, _++_};
 ghost use lib.ListN.{length};
 ghost use Rattle.hash.specs.Sha256.{digest};
-ghost use Rattle.harness.specs.Answers.{digestAnswer, written};
+ghost use Rattle.harness.specs.Answers.{digestAnswer};
+ghost use Rattle.theory.specs.Checks.{written};
 
 // A message of 2^61 bytes or more is refused: its length in bits does not fit eight bytes.
 #[no_mangle]

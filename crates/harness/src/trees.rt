@@ -6,7 +6,8 @@ ghost use Rattle.hash.specs.Sha256.{digest};
 ghost use Rattle.tree.specs.Merkle.{root};
 ghost use Rattle.tree.specs.Entry.{entries};
 ghost use Rattle.tree.specs.Layout.{openedRoot, openingSize, ownOpening};
-ghost use Rattle.harness.specs.Answers.{answer, written};
+ghost use Rattle.harness.specs.Answers.{permittedAnswer};
+ghost use Rattle.theory.specs.Checks.{written};
 ghost use Rattle.harness.specs.Permitted.{treePermitted, openingPermitted, openedPermitted};
 
 fn leaves(depth: usize) -> usize
@@ -43,7 +44,7 @@ fn opening_permitted(depth: usize, count: usize, position: usize, size: usize) -
 // Writes the root of the tree over the values.
 #[no_mangle]
 pub extern "C" fn lomvuze_test_root(values: &[u32], depth: usize, out: &mut [u8; 32]) -> u32
-    ensures answer { λ r. ⌜ r ≡ answer (treePermitted depth (length (now (values .entry)))) ⌝ }
+    ensures answer { λ r. ⌜ r ≡ permittedAnswer (treePermitted depth (length (now (values .entry)))) ⌝ }
     ensures out { λ r. ⌜ now (out .exit) ≡ written r (root digest depth (entries (now (values .entry)))) (now (out .entry)) ⌝ }
 {
     if !tree_permitted(depth, values.len()) {
@@ -70,7 +71,7 @@ pub extern "C" fn lomvuze_test_opening(
     position: usize,
     out: &mut [u8],
 ) -> u32
-    ensures answer { λ r. ⌜ r ≡ answer (openingPermitted depth (length (now (values .entry))) position (length (now (out .entry)))) ⌝ }
+    ensures answer { λ r. ⌜ r ≡ permittedAnswer (openingPermitted depth (length (now (values .entry))) position (length (now (out .entry)))) ⌝ }
     ensures out { λ r. ⌜ now (out .exit) ≡ written r (ownOpening digest depth (now (values .entry)) position) (now (out .entry)) ⌝ }
 {
     if !opening_permitted(depth, values.len(), position, out.len()) {
@@ -88,7 +89,7 @@ pub extern "C" fn lomvuze_test_leads(
     position: usize,
     out: &mut [u8; 32],
 ) -> u32
-    ensures answer { λ r. ⌜ r ≡ answer (openedPermitted depth (length (now (opening .entry)))) ⌝ }
+    ensures answer { λ r. ⌜ r ≡ permittedAnswer (openedPermitted depth (length (now (opening .entry)))) ⌝ }
     ensures out { λ r. ⌜ now (out .exit) ≡ written r (openedRoot digest (now (opening .entry)) 0 depth position) (now (out .entry)) ⌝ }
 {
     if !opened_permitted(depth, opening.len()) {

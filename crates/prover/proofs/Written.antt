@@ -10,12 +10,11 @@ use Rattle.field.specs.BabyBear.{babyBear, F, val, ofℕ}
 use Rattle.field.specs.Numbers.{Below}
 use Rattle.field.proofs.Numbers.{elements-of-numbers, numbers-of-elements}
 use Rattle.theory.specs.Items.{Item}
-use Rattle.theory.specs.Instance.{witnessRoot}
 use Rattle.theory.specs.Combination.{newE, newR, newX}
-use Rattle.theory.specs.Buffers.{elements, elementBytes, itemBytes, readItems}
 use Rattle.theory.specs.Sizes.{elementsBelow}
-use Rattle.theory.specs.Calls.{newWitness, newItem}
-use Rattle.theory.proofs.ElementBytes.{length-elementBytes, values-below, elements-read, elements-below}
+use Rattle.theory.specs.Fp.{fp, witnessRoot, elements, elementBytes, itemBytes, readItems, newWitness, newItem}
+use Rattle.theory.proofs.ElementBytes.{length-written, elements-read}
+use Rattle.theory.proofs.FpLaws.{values-below, fp-format, fp-laws}
 use Rattle.fold.specs.Weights.{lagrangeAt, weightedFrom}
 use Rattle.fold.proofs.Reading.{part-inside}
 use Rattle.fold.proofs.Mixing.{length-weights, weightedFrom-below, mixed-w}
@@ -46,13 +45,13 @@ module _ (k l : ℕ) (a : F) (wits : List ℕ) where
 
   module _ {wit : List ℕ} (e : wit ≡ elementBytes w) where
     pub witness-length : length wit ≡ 4 * k
-    witness-length = ap length e ∙ length-elementBytes w ∙ ap (λ (n : ℕ). 4 * n) new-witness-size
+    witness-length = ap length e ∙ length-written fp fp-laws k w new-witness-size
 
     pub witness-below : elementsBelow wit ≡ true
-    witness-below = ap elementsBelow e ∙ elements-below w
+    witness-below = ap elementsBelow e ∙ fp-format .numbers-below w
 
     pub witness-read : elements k wit ≡ w
-    witness-read = ap (elements k) e ∙ elements-read k w new-witness-size
+    witness-read = ap (elements k) e ∙ elements-read fp fp-laws k w new-witness-size
 
 -- ---- the new item
 

@@ -1,32 +1,27 @@
 // Folding: the quotient, the new item and the new witness at a challenge. Checks 2, 3, 4, 5, 10 and 11.
 ghost use mathlib.Core.Path.{_≡_};
-ghost use mathlib.Core.Bool.{true, _&&_};
+ghost use mathlib.Core.Bool.{true};
 ghost use mathlib.Core.List.{_∷_, _++_, map};
-ghost use Prim.Native.Nat.{_*_, _≤_, _<_};
+ghost use Prim.Native.Nat.{ℕ, _*_, _≤_, _<_};
 ghost use lib.ListN.{length};
 ghost use Rattle.field.specs.BabyBear.{babyBear, p, ofℕ};
 ghost use Rattle.field.specs.Numbers.{Below};
 ghost use Rattle.code.specs.Points.{isWitnessCount};
 ghost use Rattle.theory.specs.Checks.{answer};
-ghost use Rattle.theory.specs.Instance.{witnessRoot};
 ghost use Rattle.theory.specs.Combination.{newE, newR, newX, quotientSize};
-ghost use Rattle.theory.specs.Buffers.{elements, elementBytes, itemSize, itemBytes, readItems};
-ghost use Rattle.theory.specs.Sizes.{hasLength, elementsBelow};
-ghost use Rattle.theory.specs.Calls.{listFits, listQuotient, newWitness, newItem, foldChecks, fold};
+ghost use Rattle.theory.specs.Sizes.{elementsBelow};
+ghost use Rattle.theory.specs.Fp.{witnessRoot, elements, elementBytes, itemSize, itemBytes, readItems, listQuotient, newWitness, newItem, foldOutputsFit, foldFits, foldChecks, fold};
 ghost use Rattle.fold.specs.Weights.{lagrangeAt};
 ghost use Rattle.fold.specs.Fits.{Fits};
 use crate::list;
-use crate::quotient;
-use checks::item;
-use fold::new_item;
 
 // The lengths of the output buffers.
 fn outputs_fit(m: usize, n: usize, k: usize, l: usize, q: &[u8], item: &[u8], wit: &[u8]) -> bool
     requires { ⌜ (m ≤ 6) × (n ≤ 64) × (k ≤ 64) × (1 ≤ l) × (l ≤ 8) ⌝ }
-    ensures { λ r. ⌜ r ≡ (hasLength (now (q .entry)) (4 * quotientSize m l) && hasLength (now (item .entry)) (itemSize m n) && hasLength (now (wit .entry)) (4 * k)) ⌝ }
+    ensures { λ r. ⌜ r ≡ foldOutputsFit m n k l (now (q .entry)) (now (item .entry)) (now (wit .entry)) ⌝ }
 {
     (q.len() == 4 * list::quotient_size(m, l))
-        & (item.len() == 4 + 4 * m + 4 * n + 32)
+        & (item.len() == checks::item::size(m, n))
         & (wit.len() == 4 * k)
 }
 
@@ -45,9 +40,9 @@ fn fits(
     item: &[u8],
     wit: &[u8],
 ) -> bool
-    ensures { λ r. ⌜ r ≡ (listFits m n k l (now (a .entry)) (now (b .entry)) (now (c .entry)) (now (items .entry)) (now (wits .entry)) && hasLength (now (q .entry)) (4 * quotientSize m l) && hasLength (now (item .entry)) (itemSize m n) && hasLength (now (wit .entry)) (4 * k)) ⌝ }
+    ensures { λ r. ⌜ ((challenge : ℕ) → r ≡ foldFits m n k l challenge (now (a .entry)) (now (b .entry)) (now (c .entry)) (now (items .entry)) (now (wits .entry)) (now (q .entry)) (now (item .entry)) (now (wit .entry))) ⌝ }
 {
-    if !list::fits(m, n, k, l, a, b, c, items, wits) {
+    if !checks::list::fits(m, n, k, l, a, b, c, items, wits) {
         return false;
     }
     outputs_fit(m as usize, n as usize, k as usize, l as usize, q, item, wit)
@@ -77,22 +72,14 @@ fn verdict(
     let ns = n as usize;
     let ks = k as usize;
     let ls = l as usize;
-    if !list::below(ms, ns, ks, ls, a, b, c, items, wits) {
-        return 3;
-    }
-    if !checks::order::circuit_in_order(ms, ns, ks, a, b, c) {
-        return 4;
+    let listed = checks::list::verdict(ms, ns, ks, ls, a, b, c, items, wits);
+    if listed != 0 {
+        return listed;
     }
     if !checks::sizes::challenge_fits(l, challenge) {
         return 5;
     }
-    if !checks::claims::all_match(ms, ns, ks, ls, items, wits) {
-        return 10;
-    }
-    if !checks::claims::all_hold(ms, ns, ks, ls, a, b, c, items, wits) {
-        return 11;
-    }
-    0
+    checks::list::claims(ms, ns, ks, ls, a, b, c, items, wits)
 }
 
 // Writes the new witness, with the given weights.
@@ -124,11 +111,12 @@ fn write_item(
 {
     let mut values = [0u32; 71];
     let count = 1 + m + n;
-    new_item::new_numbers(m, n, l, at, weights, items, q, &mut values[..count]);
-    item::write(&values[..count], checks::witness::root(k, wit), out);
+    let stride = checks::item::size(m, n) / 4;
+    fold::new_item::new_numbers(m, n, l, stride, at, weights, items, q, &mut values[..count]);
+    checks::item::write(&values[..count], checks::witness::root(k, wit), out);
 }
 
-// Writes the quotient, the new witness and the new item; values is lent for the quotient's numbers, weights for the L_i.
+// Writes the quotient, the new witness and the new item; values is scratch space for the quotient's numbers, weights for the L_i.
 fn write_in(
     m: usize,
     n: usize,
@@ -153,7 +141,7 @@ fn write_in(
     ensures { λ _. ⌜ now (item .exit) ≡ itemBytes (newItem m n k l (ofℕ at) (now (items .entry)) (now (wits .entry)) (listQuotient m n k l (now (a .entry)) (now (b .entry)) (now (c .entry)) (now (items .entry)) (now (wits .entry)))) ⌝ }
     ensures { λ _. ⌜ now (wit .exit) ≡ elementBytes (newWitness k l (ofℕ at) (now (wits .entry))) ⌝ }
 {
-    quotient::write_in(m, n, k, l, a, b, c, items, wits, values, q);
+    crate::quotient::write_in(m, n, k, l, a, b, c, items, wits, values, q);
     let inverses = field::inverses();
     fold::basis::lagrange(at, &inverses, weights);
     write_witness(k, l, at, weights, wits, wit);

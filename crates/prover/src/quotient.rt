@@ -1,15 +1,12 @@
 // The quotient of a list of items with their witnesses. Checks 2, 3, 4, 10 and 11.
 ghost use mathlib.Core.Path.{_≡_};
-ghost use mathlib.Core.Bool.{_&&_};
 ghost use mathlib.Core.List.{map};
 ghost use Prim.Native.Nat.{_*_};
 ghost use lib.ListN.{length};
 ghost use Rattle.field.specs.BabyBear.{val};
 ghost use Rattle.theory.specs.Checks.{answer};
 ghost use Rattle.theory.specs.Combination.{quotientSize};
-ghost use Rattle.theory.specs.Buffers.{elementBytes};
-ghost use Rattle.theory.specs.Sizes.{hasLength};
-ghost use Rattle.theory.specs.Calls.{listFits, listQuotient, quotientChecks, quotient};
+ghost use Rattle.theory.specs.Fp.{elementBytes, listQuotient, quotientFits, quotientChecks, quotient};
 ghost use Rattle.fold.specs.Fits.{Fits};
 use crate::list;
 
@@ -26,9 +23,9 @@ fn fits(
     wits: &[u8],
     out: &[u8],
 ) -> bool
-    ensures { λ r. ⌜ r ≡ (listFits m n k l (now (a .entry)) (now (b .entry)) (now (c .entry)) (now (items .entry)) (now (wits .entry)) && hasLength (now (out .entry)) (4 * quotientSize m l)) ⌝ }
+    ensures { λ r. ⌜ r ≡ quotientFits m n k l (now (a .entry)) (now (b .entry)) (now (c .entry)) (now (items .entry)) (now (wits .entry)) (now (out .entry)) ⌝ }
 {
-    if !list::fits(m, n, k, l, a, b, c, items, wits) {
+    if !checks::list::fits(m, n, k, l, a, b, c, items, wits) {
         return false;
     }
     out.len() == 4 * list::quotient_size(m as usize, l as usize)
@@ -55,22 +52,14 @@ fn verdict(
     let ns = n as usize;
     let ks = k as usize;
     let ls = l as usize;
-    if !list::below(ms, ns, ks, ls, a, b, c, items, wits) {
-        return 3;
+    let listed = checks::list::verdict(ms, ns, ks, ls, a, b, c, items, wits);
+    if listed != 0 {
+        return listed;
     }
-    if !checks::order::circuit_in_order(ms, ns, ks, a, b, c) {
-        return 4;
-    }
-    if !checks::claims::all_match(ms, ns, ks, ls, items, wits) {
-        return 10;
-    }
-    if !checks::claims::all_hold(ms, ns, ks, ls, a, b, c, items, wits) {
-        return 11;
-    }
-    0
+    checks::list::claims(ms, ns, ks, ls, a, b, c, items, wits)
 }
 
-// Writes the quotient, and leaves its numbers in the list that is lent for them.
+// Writes the quotient, and leaves its numbers in values.
 pub fn write_in(
     m: usize,
     n: usize,
@@ -88,7 +77,8 @@ pub fn write_in(
     ensures { λ _. ⌜ now (values .exit) ≡ map val (listQuotient m n k l (now (a .entry)) (now (b .entry)) (now (c .entry)) (now (items .entry)) (now (wits .entry))) ⌝ }
     ensures { λ _. ⌜ now (out .exit) ≡ elementBytes (listQuotient m n k l (now (a .entry)) (now (b .entry)) (now (c .entry)) (now (items .entry)) (now (wits .entry))) ⌝ }
 {
-    fold::quotient::quotient(m, n, k, l, a, b, c, items, wits, values);
+    let stride = checks::item::size(m, n) / 4;
+    fold::quotient::quotient(m, n, k, l, stride, a, b, c, items, wits, values);
     numbers::store(values, out);
 }
 

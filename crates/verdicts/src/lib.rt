@@ -1,7 +1,7 @@
 // The seven calls and the sheet reader for C. Each tests its own input and answers 0, or the number of the first check that fails; a refusal writes nothing.
 ghost use mathlib.Core.Path.{_≡_};
 ghost use Rattle.theory.specs.Checks.{written};
-ghost use Rattle.theory.specs.Calls.{encode, cast, quotient, fold, «open», verify, decide};
+ghost use Rattle.theory.specs.Fp.{encode, cast, quotient, fold, «open», verify, decide};
 ghost use Rattle.sheet.specs.Reading.{readSheet, sizesOf};
 
 // Writes the codeword of a witness and its root. Checks 2 and 3.

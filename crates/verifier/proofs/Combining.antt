@@ -13,17 +13,18 @@ use Rattle.algebra.proofs.ListLaws.{length-build, getD-build, build-cong, build
 use Rattle.numbers.specs.Numbers.{numbers}
 use Rattle.numbers.proofs.Bytes.{length-numbers}
 use Rattle.numbers.proofs.Bounds.{below}
+use Rattle.numbers.proofs.Tests.{_&_, and-left, and-right, same-test}
 use Rattle.field.specs.BabyBear.{babyBear, p, F, val, ofℕ, 𝟘}
 use Rattle.field.specs.Numbers.{Below}
 use Rattle.field.proofs.Laws.{val-small, ofℕ-of}
 use Rattle.theory.specs.Checks.{every}
 use Rattle.theory.specs.Items.{Item}
 use Rattle.theory.specs.Combination.{newE, newR, newX, quotientSize}
-use Rattle.theory.specs.Buffers.{numberAt, elementAt, elements, readItem, readItems}
-use Rattle.theory.specs.Sizes.{elementsBelow, itemBelow}
-use Rattle.theory.specs.Calls.{sameElement, sameElements, readShown, combines}
-use Rattle.theory.proofs.CheckLaws.{_&_, and-left, and-right, every-true, true-every}
-use Rattle.theory.proofs.Equality.{same-element, same-elements, equal-element, equal-elements, same-test}
+use Rattle.theory.specs.Buffers.{numberAt}
+use Rattle.theory.specs.Sizes.{elementsBelow}
+use Rattle.theory.specs.Fp.{fp, elementAt, elements, readItem, readItems, itemBelow, sameElement, sameElements, readShown, combines}
+use Rattle.theory.proofs.CheckLaws.{every-true, true-every}
+use Rattle.theory.proofs.Equality.{same-element, same-elements, equal-element, equal-elements}
 use Rattle.fold.proofs.NewItem.{build-append}
 
 -- ---- the quotient's elements
@@ -87,19 +88,19 @@ module _ (m n : ℕ) (item : List ℕ) (e : F) (r x : List F) (hr : length r ≡
 
     there : every (length expected) equal ≡ true → same ≡ true
     there h =
-        same-elements (build-cong m (λ j. elementAt item (1 + j)) (λ j. getD r j 𝟘) (λ j g. element h (1 + j) (omega arith) ∙ entry-r j g) ∙ build-getD r m 𝟘 hr)
-        & same-elements (build-cong n (λ j. elementAt item (1 + m + j)) (λ j. getD x j 𝟘) (λ j g. element h (1 + m + j) (omega arith) ∙ entry-x j g) ∙ build-getD x n 𝟘 hx)
-        & same-element (element h 0 (omega arith))
+        same-elements fp (build-cong m (λ j. elementAt item (1 + j)) (λ j. getD r j 𝟘) (λ j g. element h (1 + j) (omega arith) ∙ entry-r j g) ∙ build-getD r m 𝟘 hr)
+        & same-elements fp (build-cong n (λ j. elementAt item (1 + m + j)) (λ j. getD x j 𝟘) (λ j g. element h (1 + m + j) (omega arith) ∙ entry-x j g) ∙ build-getD x n 𝟘 hx)
+        & same-element fp (element h 0 (omega arith))
 
     back : same ≡ true → every (length expected) equal ≡ true
     back h = true-every (length expected) equal (λ j g. eq-eqb (numberAt item j) (getD expected j 0) (number j (omega (arith, g, size))))
       where
         lists : build (suc (m + n)) (elementAt item) ≡ es
         lists = sym all
-            ∙ ap₂ (λ (a : F) (t : List F). a ∷ t) (equal-element (readItem m n item .e) e (and-right (sameElements (readItem m n item .r) r && sameElements (readItem m n item .x) x) (sameElement (readItem m n item .e) e) h))
+            ∙ ap₂ (λ (a : F) (t : List F). a ∷ t) (equal-element fp (readItem m n item .e) e (and-right (sameElements (readItem m n item .r) r && sameElements (readItem m n item .x) x) (sameElement (readItem m n item .e) e) h))
             (ap₂ (λ (s t : List F). s ++ t)
-            (equal-elements (readItem m n item .r) r (and-left (sameElements (readItem m n item .r) r) (sameElements (readItem m n item .x) x) (and-left (sameElements (readItem m n item .r) r && sameElements (readItem m n item .x) x) (sameElement (readItem m n item .e) e) h)))
-            (equal-elements (readItem m n item .x) x (and-right (sameElements (readItem m n item .r) r) (sameElements (readItem m n item .x) x) (and-left (sameElements (readItem m n item .r) r && sameElements (readItem m n item .x) x) (sameElement (readItem m n item .e) e) h))))
+            (equal-elements fp (readItem m n item .r) r (and-left (sameElements (readItem m n item .r) r) (sameElements (readItem m n item .x) x) (and-left (sameElements (readItem m n item .r) r && sameElements (readItem m n item .x) x) (sameElement (readItem m n item .e) e) h)))
+            (equal-elements fp (readItem m n item .x) x (and-right (sameElements (readItem m n item .r) r) (sameElements (readItem m n item .x) x) (and-left (sameElements (readItem m n item .r) r && sameElements (readItem m n item .x) x) (sameElement (readItem m n item .e) e) h))))
 
         number : (j : ℕ) → j < 1 + m + n → numberAt item j ≡ getD expected j 0
         number j g =

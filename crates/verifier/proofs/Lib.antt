@@ -1,4 +1,3 @@
-pub mod Answers
 pub mod Combining
 pub mod Counting
 pub mod Leading

@@ -1,28 +1,26 @@
--- Laws of tests: one test of each number that agrees with another, and equality of elements as equality of numbers.
-use mathlib.Core.Path.{_≡_, refl, sym, ap, ap₂, _∙_}
+-- Laws of tests: parts of a joined test, and equality of elements as equality of numbers.
+use mathlib.Core.Path.{_≡_, sym, ap, _∙_}
 use mathlib.Core.Bool.{Bool, true, _&&_}
-use mathlib.Core.List.{List}
-use Prim.Native.Nat.{ℕ, zero, suc, _<_}
-use native.Mathlib.Omega.{arith}
+use mathlib.Core.List.{List, [], _∷_}
+use Prim.Native.Nat.{ℕ, _<_}
 use borrow.Author.Tests.{eqb-true, eq-eqb}
 use lib.Dec.{eqb}
+use Rattle.numbers.specs.Equality.{sameBytes}
+use Rattle.numbers.proofs.Tests.{same-bytes, equal-bytes, same-test, each-true}
 use Rattle.field.specs.BabyBear.{p, F, val, ofℕ}
 use Rattle.field.proofs.Laws.{val-small, ofℕ-of}
-use Rattle.theory.specs.Checks.{every}
-use Rattle.theory.specs.Calls.{sameBytes, sameElement}
-use Rattle.theory.proofs.Equality.{same-bytes, equal-bytes, same-element, equal-element, same-test}
+use Rattle.theory.specs.Fp.{fp, sameElement}
+use Rattle.theory.proofs.Equality.{same-element, equal-element}
 
--- Tests that agree at each number below n.
-pub every-cong : (n : ℕ) (f g : ℕ → Bool) → ((i : ℕ) → i < n → f i ≡ g i) → every n f ≡ every n g
-unfolding every
-every-cong zero f g h = refl
-every-cong (suc n) f g h = ap₂ _&&_ (every-cong n f g (λ i l. h i (omega arith))) (h n (omega arith))
+-- Of four tests that pass together, the last three pass.
+pub last-three : (a b c d : Bool) → (a && b && c && d) ≡ true → (b ≡ true) × (c ≡ true) × (d ≡ true)
+last-three a b c d h = let t = each-true a (b ∷ c ∷ d ∷ []) h in (t .1 .0, t .1 .1 .0, t .1 .1 .1 .0)
 
 -- A number below p is an element's number exactly if its element is that element.
 pub same-number : {x : ℕ} (a : F) → x < p → sameElement (ofℕ x) a ≡ eqb x (val a)
 same-number {x} a h = same-test (sameElement (ofℕ x) a) (eqb x (val a))
-    (λ e. eq-eqb x (val a) (sym (val-small h) ∙ ap val (equal-element (ofℕ x) a e)))
-    (λ e. same-element (ofℕ-of a (eqb-true x (val a) e)))
+    (λ e. eq-eqb x (val a) (sym (val-small h) ∙ ap val (equal-element fp (ofℕ x) a e)))
+    (λ e. same-element fp (ofℕ-of a (eqb-true x (val a) e)))
 
 -- A test of two byte strings that are known to be x and y.
 pub same-strings : {r : Bool} {a b : List ℕ} (x y : List ℕ) → a ≡ x → b ≡ y → (r ≡ true → a ≡ b) × (a ≡ b → r ≡ true) → r ≡ sameBytes x y

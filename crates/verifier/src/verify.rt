@@ -2,19 +2,26 @@
 ghost use mathlib.Core.Path.{_≡_};
 ghost use mathlib.Core.Bool.{true, _&&_};
 ghost use mathlib.Core.List.{[], _∷_};
-ghost use Prim.Native.Nat.{suc, _*_, _<_};
+ghost use Prim.Native.Nat.{ℕ, suc, _*_, _≤_, _<_};
 ghost use lib.ListN.{length};
 ghost use Rattle.field.specs.BabyBear.{p};
 ghost use Rattle.tree.specs.Layout.{openingSize};
 ghost use Rattle.code.specs.Points.{depth};
 ghost use Rattle.theory.specs.Combination.{quotientSize};
 ghost use Rattle.theory.specs.Checks.{check, answer};
-ghost use Rattle.theory.specs.Buffers.{elements, itemSize, readItems};
-ghost use Rattle.theory.specs.Sizes.{hasLength, elementsBelow, itemBelow, itemsBelow, openedBelow};
-ghost use Rattle.theory.specs.Calls.{readShown, combines, openingsLead, valuesCombine, verify};
-ghost use Rattle.verifier.specs.Verifying.{fits, Counts, Lengths};
+ghost use Rattle.theory.specs.Sizes.{hasLength, elementsBelow};
+ghost use Rattle.theory.specs.Fp.{elements, itemSize, readItems, itemBelow, itemsBelow, openedBelow, readShown, combines, openingsLead, valuesCombine, verifyFits, verify};
+ghost use Rattle.verifier.specs.Verifying.{Counts, Lengths};
 use crate::combined;
 use crate::opened;
+
+// The bytes of an opening.
+fn opening_size(depth: usize) -> usize
+    requires { ⌜ depth ≤ 8 ⌝ }
+    ensures { λ r. ⌜ r ≡ openingSize depth ⌝ }
+{
+    4 + 32 * depth
+}
 
 // The lengths of check 2, for permitted sizes and counts.
 fn lengths_fit(
@@ -32,8 +39,8 @@ fn lengths_fit(
     requires { ⌜ Counts m n k l t ⌝ }
     ensures { λ r. ⌜ r ≡ (hasLength (now (items .entry)) (l * itemSize m n) && hasLength (now (positions .entry)) (4 * t) && hasLength (now (quotient .entry)) (4 * quotientSize m l) && hasLength (now (item .entry)) (itemSize m n) && hasLength (now (openings .entry)) (t * suc l * openingSize (depth k))) ⌝ }
 {
-    let size = 4 + 4 * m + 4 * n + 32;
-    let opening = 4 + 32 * code::depth_of(k);
+    let size = checks::item::size(m, n);
+    let opening = opening_size(code::depth_of(k));
     (items.len() == l * size)
         & (positions.len() == 4 * t)
         & (quotient.len() == 4 * ((l - 1) * (m + 1)))
@@ -54,7 +61,7 @@ fn fits(
     item: &[u8],
     openings: &[u8],
 ) -> bool
-    ensures { λ r. ⌜ r ≡ fits m n k l t (now (items .entry)) (now (positions .entry)) (now (quotient .entry)) (now (item .entry)) (now (openings .entry)) ⌝ }
+    ensures { λ r. ⌜ ((challenge : ℕ) → r ≡ verifyFits m n k l t challenge (now (items .entry)) (now (positions .entry)) (now (quotient .entry)) (now (item .entry)) (now (openings .entry))) ⌝ }
 {
     if !(checks::sizes::sizes(m, n, k) & checks::sizes::item_count_fits(l)) {
         return false;
@@ -91,13 +98,16 @@ fn numbers_below(
     requires { ⌜ Counts m n k l t × (length (now items) ≡ l * itemSize m n) × (length (now quotient) ≡ 4 * quotientSize m l) × (length (now item) ≡ itemSize m n) × (length (now openings) ≡ t * suc l * openingSize (depth k)) ⌝ }
     ensures { λ r. ⌜ r ≡ (itemsBelow m n l (now (items .entry)) && elementsBelow (now (quotient .entry)) && itemBelow m n (now (item .entry)) && openedBelow (depth k) (t * suc l) (now (openings .entry))) ⌝ }
 {
-    checks::elements::items_below(m, n, l, items)
+    let count = 1 + m + n;
+    let size = checks::item::size(m, n);
+    let opening = opening_size(code::depth_of(k));
+    checks::elements::items_below(count, size, l, items)
         & checks::elements::elements_below(quotient, (l - 1) * (m + 1))
-        & checks::elements::item_below(m, n, item)
-        & checks::elements::opened_below(code::depth_of(k), t * (l + 1), openings)
+        & checks::elements::item_below(count, item)
+        & checks::elements::opened_below(opening, t * (l + 1), openings)
 }
 
-// Checks 7 to 9; weights is lent for the L_i at the challenge.
+// Checks 7 to 9; weights is scratch space for the L_i at the challenge.
 fn verdict_in(
     m: usize,
     n: usize,
@@ -118,14 +128,28 @@ fn verdict_in(
 {
     let inverses = field::inverses();
     fold::basis::lagrange(challenge, &inverses, weights);
-    if !combined::combines(m, n, l, challenge, weights, items, quotient, item) {
+    let front = checks::item::front(m, n);
+    let size = checks::item::size(m, n);
+    let depth = code::depth_of(k);
+    let opening = opening_size(depth);
+    if !combined::combines(m, n, l, size / 4, challenge, weights, items, quotient, item) {
         return 7;
     }
-    let depth = code::depth_of(k);
-    if !opened::openings_lead(m, n, l, t, depth, items, positions, item, openings) {
+    if !opened::openings_lead(
+        size,
+        front,
+        opening,
+        l,
+        t,
+        depth,
+        items,
+        positions,
+        item,
+        openings,
+    ) {
         return 8;
     }
-    if !opened::values_combine(weights, t, depth, openings) {
+    if !opened::values_combine(weights, t, opening / 4, openings) {
         return 9;
     }
     0

@@ -94,8 +94,8 @@ returns-3 c =
     (c .before .before .before .before .before .before .before .before .before .if2 .left) (shown .result) (shown .last .1 .1 .1 .1 .1 .1 .0) (shown .last .1 .1 .1 .1 .1 .1 .1 .0) (shown .ensures .0) (shown .ensures .1 .0) (shown .ensures .1 .1)
     (c .if3 .taken)
 
-judge-requires : tie.Need-judge-requires
-judge-requires c κs = search needs
+verify-and-decide-requires : tie.Need-verify-and-decide-requires
+verify-and-decide-requires c κs = search needs
 
 same-length-13 : tie.Need-same-length-13
 same-length-13 c = search needs
@@ -121,7 +121,7 @@ returns-4 c =
     (fold .result) (fold .last .1 .1 .1 .1 .1 .1 .1 .1 .1 .1 .0) (fold .last .1 .1 .1 .1 .1 .1 .1 .1 .1 .1 .1 .0) (fold .last .1 .1 .1 .1 .1 .1 .1 .1 .1 .1 .1 .1 .0)
     (fold .ensures .0) (fold .ensures .1 .0) (fold .ensures .1 .1 .0) (fold .ensures .1 .1 .1)
     (c .before .before .before .before .before .before .before .before .before .before .before .before .before .before .if2 .left) (shown .result) (shown .last .1 .1 .1 .1 .1 .1 .0) (shown .last .1 .1 .1 .1 .1 .1 .1 .0) (shown .ensures .0) (shown .ensures .1 .0) (shown .ensures .1 .1)
-    (c .before .before .before .before .before .if3 .left) (c .judge .result) (c .judge .ensures)
+    (c .before .before .before .before .before .if3 .left) (c .verify-and-decide .result) (c .verify-and-decide .ensures)
 
 pub chain-spec : {M : Type 1} → statement M
 chain-spec =
@@ -145,7 +145,7 @@ chain-spec =
     same-length-11
     same-length-12
     returns-3
-    judge-requires
+    verify-and-decide-requires
     same-length-13
     same-length-14
     same-length-15

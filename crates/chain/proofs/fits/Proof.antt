@@ -4,12 +4,12 @@ use mathlib.Core.Bool.{Bool, true, _&&_}
 use Prim.Native.Nat.{suc, _*_}
 use native.Mathlib.Omega.{arith}
 use borrow.Author.Tests.{not-true, not-false}
+use Rattle.numbers.proofs.Tests.{and-left, and-right}
 use Rattle.tree.specs.Layout.{openingSize}
 use Rattle.code.specs.Points.{isWitnessCount, depth}
 use Rattle.theory.specs.Sizes.{itemCountFits, hasLength}
-use Rattle.theory.proofs.CheckLaws.{and-left, and-right}
 use Rattle.chain.specs.Chained.{openedSize}
-use Rattle.chain.proofs.Lengths.{few-items}
+use Rattle.theory.proofs.HonestList.{few-items}
 use borrow.Author.Needs.{needs}
 use Rattle.chain.proofs.fits.Statement.{statement}
 use Rattle.chain.proofs.fits.Tie as tie

@@ -1,6 +1,6 @@
 -- `order::copy_part` meets its contract.
 use mathlib.Core.Path.{_∙_}
-use Rattle.chain.proofs.Filling.{lent-back, part-copied}
+use Rattle.chain.proofs.Filling.{borrowed-back, part-copied}
 use borrow.Author.Needs.{needs}
 use Rattle.chain.proofs.order.copy_part.Statement.{statement}
 use Rattle.chain.proofs.order.copy_part.Tie as tie
@@ -39,7 +39,7 @@ returns : tie.Need-returns
 returns c =
     let start = c .before .before .before .before .before .before .before in
     let a = start .args in
-    lent-back (a .to .now) _ (c .before .before .copy .last .1 .0) (a .at) (a .size)
+    borrowed-back (a .to .now) _ (c .before .before .copy .last .1 .0) (a .at) (a .size)
     (c .before .before .copy .ensures .1 ∙ part-copied (a .from .now) (a .to .now) (a .start) (a .at) (a .size) (start .pre .0) (start .pre .1))
 
 pub copy-part-spec : {M : Type 1} → statement M

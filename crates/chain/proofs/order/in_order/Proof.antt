@@ -7,7 +7,7 @@ use lib.ListN.{length}
 use Rattle.algebra.specs.Lists.{concatTo}
 use Rattle.theory.proofs.Parts.{length-part, part-within}
 use Rattle.chain.specs.Parts.{piece, Filled}
-use Rattle.chain.proofs.Filling.{lent-part, lent-back, lent-length, none-filled, one-filled, all-filled}
+use Rattle.chain.proofs.Filling.{borrowed-part, borrowed-back, borrowed-length, none-filled, one-filled, all-filled}
 use Rattle.chain.proofs.order.in_order.Statement.{statement}
 use Rattle.chain.proofs.order.in_order.Tie as tie
 
@@ -55,7 +55,7 @@ row-requires c κs =
     let l = c .before .before .loop in (
       start .pre .3,
       part-within (a .t) (l .q) (a .size) _ (c .before .loop-test .taken) refl,
-      ap length (lent-part (l .openings) (l .q * (a .count * a .size)) (a .count * a .size))
+      ap length (borrowed-part (l .openings) (l .q * (a .count * a .size)) (a .count * a .size))
           ∙ length-part (l .openings) (l .q * (a .count * a .size)) (a .count * a .size) (omega (arith, room (c .before), l .inv .1 .same)),
     )
 
@@ -74,8 +74,8 @@ loop-again c =
     let within = room (c .before .before .before .before) in (
       omega (arith, c .before .before .before .before .loop-test .taken),
       one-filled (a .count * a .size) (λ p. concatTo (a .count) (λ i. piece (a .opened .now) (a .t * a .size) (a .size) i p)) (a .openings .now) (l .q) (l .openings) _ _ (l .inv .1) within
-          (lent-length (l .openings) (call .last .1 .1 .1 .1 .1 .0) (l .q * (a .count * a .size)) (a .count * a .size) (omega (arith, within, l .inv .1 .same)) (call .kept .1 .1 .1 .1 .1 .0))
-          (lent-back (l .openings) _ (call .last .1 .1 .1 .1 .1 .0) (l .q * (a .count * a .size)) (a .count * a .size) (call .ensures))
+          (borrowed-length (l .openings) (call .last .1 .1 .1 .1 .1 .0) (l .q * (a .count * a .size)) (a .count * a .size) (omega (arith, within, l .inv .1 .same)) (call .kept .1 .1 .1 .1 .1 .0))
+          (borrowed-back (l .openings) _ (call .last .1 .1 .1 .1 .1 .0) (l .q * (a .count * a .size)) (a .count * a .size) (call .ensures))
           refl,
     )
 

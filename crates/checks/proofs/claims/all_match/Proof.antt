@@ -1,61 +1,59 @@
 -- `claims::all_match` meets its contract. The invariant: the first i items match, and the places of item i and of witness i.
-use mathlib.Core.Path.{_≡_, sym, _∙_}
-use mathlib.Core.Bool.{true}
-use Prim.Native.Nat.{_-_, _*_, _≤_}
+use mathlib.Core.Path.{_≡_, sym, ap₂, _∙_}
+use mathlib.Core.Bool.{Bool, true}
+use mathlib.Core.List.{List}
+use Prim.Native.Nat.{ℕ, _+_, _-_, _*_, _≤_}
 use native.Mathlib.Nat.{zero-mul}
 use native.Mathlib.Omega.{arith}
-use borrow.Author.Tests.{not-true, not-false}
+use lib.ListN.{drop}
+use Rattle.numbers.specs.Equality.{sameBytes}
+use Rattle.tree.specs.Layout.{part}
 use Rattle.theory.specs.Checks.{every}
-use Rattle.theory.specs.Buffers.{itemSize}
-use Rattle.theory.specs.Calls.{matches}
-use Rattle.checks.proofs.Laws.{every-none, every-more, every-fails, every-all, member-next}
+use Rattle.theory.specs.Fp.{witnessRoot, elements, readWitness}
+use Rattle.checks.proofs.Laws.{every-none, every-all, turn-fails, turn-passes}
 use Rattle.checks.proofs.WitnessLaws.{count-few}
-use Rattle.checks.proofs.Members.{matchAt, item-within, item-length, wit-within, wit-length, wit-numbers-below, test-at}
+use Rattle.checks.proofs.Members.{Member, cut, within, cut-member, cut-length, cut-behind, next-place, wit-below}
 use Rattle.checks.proofs.claims.all_match.Statement.{statement}
 use Rattle.checks.proofs.claims.all_match.Tie as tie
 
+-- The test of item i.
+abbrev matchAt : ℕ → ℕ → ℕ → List ℕ → List ℕ → ℕ → Bool
+matchAt k size front items wits i = sameBytes (drop front (part items (i * size) size)) (witnessRoot k (readWitness k wits i))
+
 abbrev Inv-loop : tie.InvT-loop
-Inv-loop m n k l items wits size width item₀ wit₀ i₀ item wit i = (i ≤ l) × (item ≡ i * itemSize m n) × (wit ≡ i * (4 * k)) × (every i (matchAt m n k l items wits) ≡ true)
+Inv-loop k l size front items wits width item₀ wit₀ i₀ item wit i = (i ≤ l) × (item ≡ i * size) × (wit ≡ i * (4 * k)) × (every i (matchAt k size front items wits) ≡ true)
 
 abbrev μ-loop : tie.MeasureT-loop
-μ-loop m n k l items wits size width item₀ wit₀ i₀ item wit i = l - i
+μ-loop k l size front items wits width item₀ wit₀ i₀ item wit i = l - i
 
-mul-size : tie.Need-mul-size Inv-loop μ-loop
-mul-size c = omega arith
+-- Item i, witness i, and the test of the two.
+item-at : (c : tie.In-loop Inv-loop μ-loop) → (let a = c .before .before .before .before .args in Member (a .size) (a .l) (c .before .loop .i) (c .before .loop .item) (a .items .now))
+item-at c = record { inside = c .loop-test .taken; place = c .before .loop .inv .1; long = c .before .before .before .before .pre .2 }
 
-add-size : tie.Need-add-size Inv-loop μ-loop
-add-size c = omega arith
+wit-at : (c : tie.In-loop Inv-loop μ-loop) → (let a = c .before .before .before .before .args in Member (4 * a .k) (a .l) (c .before .loop .i) (c .before .loop .wit) (a .wits .now))
+wit-at c = record { inside = c .loop-test .taken; place = c .before .loop .inv .2; long = c .before .before .before .before .pre .3 }
 
-mul-size-2 : tie.Need-mul-size-2 Inv-loop μ-loop
-mul-size-2 c = omega arith
-
-add-size-2 : tie.Need-add-size-2 Inv-loop μ-loop
-add-size-2 c = omega arith
-
-add-size-3 : tie.Need-add-size-3 Inv-loop μ-loop
-add-size-3 c = omega arith
+same-at : (c : tie.In-loop Inv-loop μ-loop) → (let a = c .before .before .before .before .args in let l = c .before .loop in
+    sameBytes (part (a .items .now) (l .item + a .front) (l .item + a .size - (l .item + a .front))) (witnessRoot (a .k) (elements (a .k) (cut (a .wits .now) (l .wit) (4 * a .k))))
+    ≡ matchAt (a .k) (a .size) (a .front) (a .items .now) (a .wits .now) (l .i))
+same-at c =
+    let s = c .before .before .before .before in
+    ap₂ (λ (root wit : List ℕ). sameBytes root (witnessRoot (s .args .k) (elements (s .args .k) wit))) (cut-behind (item-at c) (s .args .front) (s .pre .1)) (cut-member (wit-at c))
 
 mul-width : tie.Need-mul-width Inv-loop μ-loop
-mul-width c =
-    let s = c .before .before in
-    omega (arith, count-few (s .args .k) (s .pre .2))
+mul-width c = let s = c .before .before in omega (arith, count-few (s .args .k) (s .pre .0))
 
 loop-holds : tie.Need-loop-holds Inv-loop μ-loop
 loop-holds c = (omega arith, sym (zero-mul _), sym (zero-mul _), every-none _)
 
+add-root : tie.Need-add-root Inv-loop μ-loop
+add-root c = let h = within (item-at c) in omega (arith, c .before .before .before .before .good)
+
 add-next-item : tie.Need-add-next-item Inv-loop μ-loop
-add-next-item c =
-    let s = c .before .before .before .before in
-    let a = s .args in
-    let l = c .before .loop in
-    omega (arith, item-within (a .m) (a .n) (a .l) (l .i) (a .items .now) (l .item) (omega arith) (l .inv .1) (s .pre .4), s .good)
+add-next-item c = let h = within (item-at c) in omega (arith, c .before .before .before .before .good)
 
 add-next-wit : tie.Need-add-next-wit Inv-loop μ-loop
-add-next-wit c =
-    let s = c .before .before .before .before in
-    let a = s .args in
-    let l = c .before .loop in
-    omega (arith, wit-within (a .k) (a .l) (l .i) (a .wits .now) (l .wit) (omega arith) (l .inv .2) (s .pre .5), s .good)
+add-next-wit c = let h = within (wit-at c) in omega (arith, c .before .before .before .before .good)
 
 sub-matches : tie.Need-sub-matches Inv-loop μ-loop
 sub-matches c = omega arith
@@ -64,11 +62,7 @@ part-matches-start : tie.Need-part-matches-start Inv-loop μ-loop
 part-matches-start c = omega arith
 
 part-matches-end : tie.Need-part-matches-end Inv-loop μ-loop
-part-matches-end c =
-    let s = c .before .before .before .before in
-    let a = s .args in
-    let l = c .before .loop in
-    item-within (a .m) (a .n) (a .l) (l .i) (a .items .now) (l .item) (omega arith) (l .inv .1) (s .pre .4)
+part-matches-end c = within (item-at c)
 
 sub-matches-2 : tie.Need-sub-matches-2 Inv-loop μ-loop
 sub-matches-2 c = omega arith
@@ -77,28 +71,18 @@ part-matches-start-2 : tie.Need-part-matches-start-2 Inv-loop μ-loop
 part-matches-start-2 c = omega arith
 
 part-matches-end-2 : tie.Need-part-matches-end-2 Inv-loop μ-loop
-part-matches-end-2 c =
-    let s = c .before .before .before .before .before in
-    let a = s .args in
-    let l = c .before .before .loop in
-    wit-within (a .k) (a .l) (l .i) (a .wits .now) (l .wit) (omega arith) (l .inv .2) (s .pre .5)
+part-matches-end-2 c = within (wit-at (c .before))
 
 matches-requires : tie.Need-matches-requires Inv-loop μ-loop
 matches-requires c κs =
-    let s = c .before .before .before .before .before .before in
-    let a = s .args in
-    let l = c .before .before .before .loop in
-    (s .pre .0, s .pre .1, s .pre .2, item-length (a .m) (a .n) (a .l) (l .i) (a .items .now) (l .item) (omega arith) (l .inv .1) (s .pre .4), wit-length (a .k) (a .l) (l .i) (a .wits .now) (l .wit) (omega arith) (l .inv .2) (s .pre .5), wit-numbers-below (a .k) (a .l) (l .i) (a .wits .now) (l .wit) (omega arith) (l .inv .2) (s .pre .5) (s .pre .6))
+    let l = c .before .before in
+    let s = l .before .before .before .before in
+    (s .pre .0, cut-length (wit-at l), wit-below (s .args .k) (wit-at l) (s .pre .4))
 
 returns : tie.Need-returns Inv-loop μ-loop
 returns c =
-    let s = c .before .before .before .before .before .before .before .before in
-    let a = s .args in
-    let l = c .before .before .before .before .before .loop in
-    let t = c .before .matches in
-    let f = matchAt (a .m) (a .n) (a .k) (a .l) (a .items .now) (a .wits .now) in
-    let same = test-at (matches (a .k)) (a .m) (a .n) (a .k) (a .l) (l .i) (a .items .now) (a .wits .now) (l .item) (l .wit) (omega arith) (l .inv .1) (l .inv .2) in
-    every-fails (a .l) f (l .i) (omega arith) (sym same ∙ sym (t .ensures) ∙ not-true (t .result) (c .if1 .taken))
+    let l = c .before .before .before .before in
+    turn-fails _ _ (l .before .loop .i) (l .loop-test .taken) (c .before .matches .ensures ∙ same-at l) (c .if1 .taken)
 
 add-i : tie.Need-add-i Inv-loop μ-loop
 add-i c = omega arith
@@ -108,17 +92,9 @@ loop-less c = omega arith
 
 loop-again : tie.Need-loop-again Inv-loop μ-loop
 loop-again c =
-    let s = c .before .before .before .before .before .before .before .before in
-    let a = s .args in
-    let l = c .before .before .before .before .before .loop in
-    let t = c .before .matches in
-    let f = matchAt (a .m) (a .n) (a .k) (a .l) (a .items .now) (a .wits .now) in
-    let same = test-at (matches (a .k)) (a .m) (a .n) (a .k) (a .l) (l .i) (a .items .now) (a .wits .now) (l .item) (l .wit) (omega arith) (l .inv .1) (l .inv .2) in (
-      omega arith,
-      member-next (itemSize (a .m) (a .n)) (l .i) (l .inv .1),
-      member-next (4 * a .k) (l .i) (l .inv .2),
-      every-more f (l .i) (l .inv .3) (sym same ∙ sym (t .ensures) ∙ not-false (t .result) (c .if1 .left)),
-    )
+    let l = c .before .before .before .before in
+    let t = l .before .loop in
+    (omega arith, next-place _ (t .i) (t .inv .1), next-place _ (t .i) (t .inv .2), turn-passes _ (t .i) (t .inv .3) (c .before .matches .ensures ∙ same-at l) (c .if1 .left))
 
 returns-2 : tie.Need-returns-2 Inv-loop μ-loop
 returns-2 c = every-all _ _ (c .before .loop .i) (omega arith) (omega arith) (c .before .loop .inv .3)
@@ -129,13 +105,9 @@ all-match-spec =
     (tie.spec
     Inv-loop
     μ-loop
-    mul-size
-    add-size
-    mul-size-2
-    add-size-2
-    add-size-3
     mul-width
     loop-holds
+    add-root
     add-next-item
     add-next-wit
     sub-matches

@@ -1,73 +1,24 @@
--- `claims::holds` meets its contract: r and x are parts of the item, and e is its first number.
-use Rattle.theory.specs.Buffers.{elements, circuit}
-use Rattle.checks.proofs.WitnessLaws.{count-few}
-use Rattle.checks.proofs.ItemTests.{r-length, x-length, r-below, value-test}
+-- `claims::holds` meets its contract: e is the first number of the item.
 use borrow.Author.Needs.{needs}
+use Rattle.field.specs.BabyBear.{R}
+use Rattle.theory.specs.R1cs.{value}
+use Rattle.theory.specs.Fp.{elements, circuit, readItem}
+use Rattle.checks.proofs.ItemTests.{value-test}
 use Rattle.checks.proofs.claims.holds.Statement.{statement}
 use Rattle.checks.proofs.claims.holds.Tie as tie
 
-mul-x : tie.Need-mul-x
-mul-x c = search needs
-
-add-x : tie.Need-add-x
-add-x c = search needs
-
-mul-end : tie.Need-mul-end
-mul-end c = search needs
-
-add-end : tie.Need-add-end
-add-end c = search needs
-
-sub-claim-value : tie.Need-sub-claim-value
-sub-claim-value c = search needs
-
-part-claim-value-start : tie.Need-part-claim-value-start
-part-claim-value-start c = search needs
-
-part-claim-value-end : tie.Need-part-claim-value-end
-part-claim-value-end c = search needs
-
-sub-claim-value-2 : tie.Need-sub-claim-value-2
-sub-claim-value-2 c = search needs
-
-part-claim-value-start-2 : tie.Need-part-claim-value-start-2
-part-claim-value-start-2 c = search needs
-
-part-claim-value-end-2 : tie.Need-part-claim-value-end-2
-part-claim-value-end-2 c = search needs
-
-claim-value-requires : tie.Need-claim-value-requires
-claim-value-requires c κs =
-    let s = c .before .before .before .before .before .before .before in
-    let a = s .args in
-    let size = s .pre .0 .3 in (
-      (s .pre .0 .0, s .pre .0 .1, count-few _ (s .pre .0 .2), r-length (a .m) (a .n) (a .item .now) size, x-length (a .m) (a .n) (a .item .now) size, s .pre .0 .4),
-      (r-below (a .m) (a .n) (a .item .now) size (s .pre .1 .0), s .pre .1 .1),
-    )
+item-value-requires : tie.Need-item-value-requires
+item-value-requires c κs = search needs
 
 get-requires : tie.Need-get-requires
 get-requires c κs = search needs
 
 returns : tie.Need-returns
 returns c =
-    let s = c .before .before .before .before .before .before .before .before .before in
+    let s = c .before .before .before .before .before .before .before in
     let a = s .args in
-    value-test (a .m) (a .n) (a .item .now) (s .pre .0 .3) (s .pre .1 .0) (circuit (a .a .now) (a .b .now) (a .c .now)) (elements (a .k) (a .wit .now)) (c .before .claim-value .ensures) (c .get .ensures)
+    let item = readItem (a .m) (a .n) (a .item .now) in
+    value-test (a .m) (a .n) (a .item .now) (s .pre .0 .3) (s .pre .1 .0) (value R (circuit (a .a .now) (a .b .now) (a .c .now)) (item .r) (item .x) (elements (a .k) (a .wit .now))) (c .before .item-value .ensures) (c .get .ensures)
 
 pub holds-spec : {M : Type 1} → statement M
-holds-spec =
-    tie.close
-    (tie.spec
-    mul-x
-    add-x
-    mul-end
-    add-end
-    sub-claim-value
-    part-claim-value-start
-    part-claim-value-end
-    sub-claim-value-2
-    part-claim-value-start-2
-    part-claim-value-end-2
-    claim-value-requires
-    get-requires
-    returns)
+holds-spec = tie.close (tie.spec item-value-requires get-requires returns)

@@ -1,8 +1,7 @@
 -- `elements::item_below` meets its contract. The invariant: the first j numbers are below p.
 use mathlib.Core.Path.{_≡_}
-use mathlib.Core.Bool.{Bool, true}
-use mathlib.Core.List.{List}
-use Prim.Native.Nat.{ℕ, _≤_, _-_}
+use mathlib.Core.Bool.{true}
+use Prim.Native.Nat.{_≤_, _-_}
 use native.Mathlib.Omega.{arith}
 use lib.Dec.{ltb}
 use Rattle.field.specs.BabyBear.{p}
@@ -12,21 +11,11 @@ use Rattle.checks.proofs.Laws.{every-none, every-all, below-more, below
 use Rattle.checks.proofs.elements.item_below.Statement.{statement}
 use Rattle.checks.proofs.elements.item_below.Tie as tie
 
--- Whether number j is below p.
-abbrev below : List ℕ → ℕ → Bool
-below item j = ltb (numberAt item j) p
-
 abbrev Inv-loop : tie.InvT-loop
-Inv-loop m n item count j₀ j = (j ≤ count) × (every j (below item) ≡ true)
+Inv-loop count item j₀ j = (j ≤ count) × (every j (λ j. ltb (numberAt item j) p) ≡ true)
 
 abbrev μ-loop : tie.MeasureT-loop
-μ-loop m n item count j₀ j = count - j
-
-add-count : tie.Need-add-count Inv-loop μ-loop
-add-count c = omega arith
-
-add-count-2 : tie.Need-add-count-2 Inv-loop μ-loop
-add-count-2 c = omega arith
+μ-loop count item j₀ j = count - j
 
 loop-holds : tie.Need-loop-holds Inv-loop μ-loop
 loop-holds c = (omega arith, every-none _)
@@ -57,15 +46,4 @@ returns-2 c = every-all _ _ (c .before .loop .j) (omega arith) (omega arith) (c 
 pub item-below-spec : {M : Type 1} → statement M
 item-below-spec =
     tie.close
-    (tie.spec
-    Inv-loop
-    μ-loop
-    add-count
-    add-count-2
-    loop-holds
-    get-requires
-    returns
-    add-j
-    loop-less
-    loop-again
-    returns-2)
+    (tie.spec Inv-loop μ-loop loop-holds get-requires returns add-j loop-less loop-again returns-2)

@@ -2,76 +2,59 @@
 use mathlib.Core.Path.{_≡_, sym, ap, _∙_}
 use mathlib.Core.Bool.{Bool, true}
 use mathlib.Core.List.{List}
-use Prim.Native.Nat.{ℕ, _≤_, _-_, _+_, _*_}
+use Prim.Native.Nat.{ℕ, _≤_, _-_, _*_}
+use native.Mathlib.Nat.{zero-mul}
 use native.Mathlib.Omega.{arith}
-use borrow.Author.Tests.{not-true, not-false}
-use lib.ListN.{length}
+use lib.Dec.{ltb}
+use Rattle.field.specs.BabyBear.{p}
+use Rattle.tree.specs.Layout.{part}
 use Rattle.theory.specs.Checks.{every}
-use Rattle.theory.specs.Buffers.{itemSize, itemPart}
-use Rattle.theory.specs.Sizes.{itemBelow}
-use Rattle.checks.proofs.Laws.{every-none, every-more, every-fails, every-all, member-inside, member-next, member-part, member-length}
+use Rattle.theory.specs.Buffers.{numberAt}
+use Rattle.checks.proofs.Laws.{every-none, every-all, turn-fails, turn-passes}
+use Rattle.checks.proofs.Members.{Member, cut, within, cut-member, cut-length, next-place}
 use Rattle.checks.proofs.elements.items_below.Statement.{statement}
 use Rattle.checks.proofs.elements.items_below.Tie as tie
 
--- Whether the numbers of item i are below p.
-abbrev below : ℕ → ℕ → List ℕ → ℕ → Bool
-below m n items i = itemBelow m n (itemPart m n items i)
+-- Whether the first numbers of an item are below p.
+abbrev below : ℕ → List ℕ → Bool
+below count item = every count (λ j. ltb (numberAt item j) p)
 
 abbrev Inv-loop : tie.InvT-loop
-Inv-loop m n l items size at₀ i₀ at i = (i ≤ l) × (at ≡ i * itemSize m n) × (every i (below m n items) ≡ true)
+Inv-loop count size l items at₀ i₀ at i = (i ≤ l) × (at ≡ i * size) × (every i (λ i. below count (part items (i * size) size)) ≡ true)
 
 abbrev μ-loop : tie.MeasureT-loop
-μ-loop m n l items size at₀ i₀ at i = l - i
+μ-loop count size l items at₀ i₀ at i = l - i
 
-mul-size : tie.Need-mul-size Inv-loop μ-loop
-mul-size c = omega arith
+-- Item i, and the test of it.
+item-at : (c : tie.In-loop Inv-loop μ-loop) → (let a = c .before .before .before .args in Member (a .size) (a .l) (c .before .loop .i) (c .before .loop .at) (a .items .now))
+item-at c = record { inside = c .loop-test .taken; place = c .before .loop .inv .1; long = c .before .before .before .pre .1 }
 
-add-size : tie.Need-add-size Inv-loop μ-loop
-add-size c = omega arith
-
-mul-size-2 : tie.Need-mul-size-2 Inv-loop μ-loop
-mul-size-2 c = omega arith
-
-add-size-2 : tie.Need-add-size-2 Inv-loop μ-loop
-add-size-2 c = omega arith
-
-add-size-3 : tie.Need-add-size-3 Inv-loop μ-loop
-add-size-3 c = omega arith
+same-at : (c : tie.In-loop Inv-loop μ-loop) → (let a = c .before .before .before .args in let l = c .before .loop in
+    below (a .count) (cut (a .items .now) (l .at) (a .size)) ≡ below (a .count) (part (a .items .now) (l .i * a .size) (a .size)))
+same-at c = ap (below (c .before .before .before .args .count)) (cut-member (item-at c))
 
 loop-holds : tie.Need-loop-holds Inv-loop μ-loop
-loop-holds c = (omega arith, omega arith, every-none _)
+loop-holds c = (omega arith, sym (zero-mul _), every-none _)
 
 add-next : tie.Need-add-next Inv-loop μ-loop
-add-next c =
-    let a = c .before .before .before .args in
-    omega (arith, member-inside (a .l) (itemSize (a .m) (a .n)) (c .before .loop .i) (omega arith))
+add-next c = let h = within (item-at c) in omega arith
 
 sub-item-below : tie.Need-sub-item-below Inv-loop μ-loop
 sub-item-below c = omega arith
 
 part-item-below-start : tie.Need-part-item-below-start Inv-loop μ-loop
-part-item-below-start c =
-    let a = c .before .before .before .args in
-    omega (arith, member-inside (a .l) (itemSize (a .m) (a .n)) (c .before .loop .i) (omega arith))
+part-item-below-start c = let h = within (item-at c) in omega arith
 
 part-item-below-end : tie.Need-part-item-below-end Inv-loop μ-loop
-part-item-below-end c =
-    let a = c .before .before .before .args in
-    omega (arith, member-inside (a .l) (itemSize (a .m) (a .n)) (c .before .loop .i) (omega arith))
+part-item-below-end c = within (item-at c)
 
 item-below-requires : tie.Need-item-below-requires Inv-loop μ-loop
-item-below-requires c κs =
-    let a = c .before .before .before .before .args in
-    let l = c .before .before .loop in
-    let inside : l .at + itemSize (a .m) (a .n) ≤ length (a .items .now) = omega (arith, member-inside (a .l) (itemSize (a .m) (a .n)) (l .i) (omega arith)) in
-    (omega arith, omega arith, member-length (l .at) (a .items .now) (itemSize (a .m) (a .n)) inside)
+item-below-requires c κs = let h = cut-length (item-at (c .before)) in omega arith
 
 returns : tie.Need-returns Inv-loop μ-loop
 returns c =
-    let a = c .before .before .before .before .before .before .args in
-    let l = c .before .before .before .before .loop in
-    let t = c .before .item-below in
-    every-fails _ (below (a .m) (a .n) (a .items .now)) (l .i) (omega arith) (ap (itemBelow (a .m) (a .n)) (sym (member-part (a .items .now) (itemSize (a .m) (a .n)) (l .i) (l .inv .1))) ∙ sym (t .ensures) ∙ not-true (t .result) (c .if1 .taken))
+    let l = c .before .before .before in
+    turn-fails _ _ (l .before .loop .i) (l .loop-test .taken) (c .before .item-below .ensures ∙ same-at l) (c .if1 .taken)
 
 add-i : tie.Need-add-i Inv-loop μ-loop
 add-i c = omega arith
@@ -81,13 +64,9 @@ loop-less c = omega arith
 
 loop-again : tie.Need-loop-again Inv-loop μ-loop
 loop-again c =
-    let a = c .before .before .before .before .before .before .args in
-    let l = c .before .before .before .before .loop in
-    let t = c .before .item-below in (
-      omega arith,
-      member-next (itemSize (a .m) (a .n)) (l .i) (l .inv .1),
-      every-more (below (a .m) (a .n) (a .items .now)) (l .i) (l .inv .2) (ap (itemBelow (a .m) (a .n)) (sym (member-part (a .items .now) (itemSize (a .m) (a .n)) (l .i) (l .inv .1))) ∙ sym (t .ensures) ∙ not-false (t .result) (c .if1 .left)),
-    )
+    let l = c .before .before .before in
+    let t = l .before .loop in
+    (omega arith, next-place _ (t .i) (t .inv .1), turn-passes _ (t .i) (t .inv .2) (c .before .item-below .ensures ∙ same-at l) (c .if1 .left))
 
 returns-2 : tie.Need-returns-2 Inv-loop μ-loop
 returns-2 c = every-all _ _ (c .before .loop .i) (omega arith) (omega arith) (c .before .loop .inv .2)
@@ -98,11 +77,6 @@ items-below-spec =
     (tie.spec
     Inv-loop
     μ-loop
-    mul-size
-    add-size
-    mul-size-2
-    add-size-2
-    add-size-3
     loop-holds
     add-next
     sub-item-below

@@ -7,14 +7,14 @@ use native.Mathlib.Omega.{arith}
 use lib.Dec.{ltb}
 use Rattle.field.specs.BabyBear.{p}
 use Rattle.theory.specs.Checks.{every}
-use Rattle.theory.specs.Buffers.{coefficientAt}
+use Rattle.theory.specs.Buffers.{entryValueAt}
 use Rattle.checks.proofs.Laws.{every-none, every-all, below-more, below-fails}
 use Rattle.checks.proofs.elements.matrix_below.Statement.{statement}
 use Rattle.checks.proofs.elements.matrix_below.Tie as tie
 
 -- Whether the value of entry i is below p.
 abbrev below : List ℕ → ℕ → Bool
-below b i = ltb (coefficientAt b i) p
+below b i = ltb (entryValueAt b i) p
 
 abbrev Inv-loop : tie.InvT-loop
 Inv-loop b count i₀ i = (i ≤ count) × (every i (below b) ≡ true)
@@ -37,7 +37,7 @@ get-requires c κs = omega arith
 returns : tie.Need-returns Inv-loop μ-loop
 returns c =
     let a = c .before .before .before .before .before .args in
-    below-fails p _ (coefficientAt (a .b .now)) (c .before .before .before .loop .i) (omega arith) (c .before .get .ensures) (c .if1 .taken)
+    below-fails p _ (entryValueAt (a .b .now)) (c .before .before .before .loop .i) (omega arith) (c .before .get .ensures) (c .if1 .taken)
 
 add-i : tie.Need-add-i Inv-loop μ-loop
 add-i c = omega arith
@@ -49,7 +49,7 @@ loop-again : tie.Need-loop-again Inv-loop μ-loop
 loop-again c =
     let a = c .before .before .before .before .before .args in
     let l = c .before .before .before .loop in
-    (omega arith, below-more p (coefficientAt (a .b .now)) (l .i) (l .inv .1) (c .before .get .ensures) (c .if1 .left))
+    (omega arith, below-more p (entryValueAt (a .b .now)) (l .i) (l .inv .1) (c .before .get .ensures) (c .if1 .left))
 
 returns-2 : tie.Need-returns-2 Inv-loop μ-loop
 returns-2 c = every-all _ _ (c .before .loop .i) (omega arith) (omega arith) (c .before .loop .inv .1)

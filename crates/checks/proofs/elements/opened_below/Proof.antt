@@ -1,51 +1,46 @@
 -- `elements::opened_below` meets its contract. The invariant: `at` is the place of opening j, and the values of those before it are below p.
-use mathlib.Core.Path.{_≡_, ap, _∙_}
+use mathlib.Core.Path.{_≡_, sym, ap, _∙_}
 use mathlib.Core.Bool.{true}
 use mathlib.Core.List.{List}
 use Prim.Native.Nat.{ℕ, _≤_, _-_, _*_}
+use native.Mathlib.Nat.{zero-mul}
 use native.Mathlib.Omega.{arith}
 use lib.Dec.{ltb}
 use Rattle.field.specs.BabyBear.{p}
-use Rattle.tree.specs.Layout.{openedValue, openingSize}
+use Rattle.tree.specs.Layout.{openedValue}
 use Rattle.theory.specs.Checks.{every}
-use Rattle.checks.proofs.Laws.{every-none, every-all, below-more, below-fails, member-inside, member-next}
+use Rattle.checks.proofs.Laws.{every-none, every-all, below-more, below-fails}
+use Rattle.checks.proofs.Members.{Member, within, next-place}
 use Rattle.checks.proofs.elements.opened_below.Statement.{statement}
 use Rattle.checks.proofs.elements.opened_below.Tie as tie
 
 -- The value of opening j.
 abbrev value : ℕ → List ℕ → ℕ → ℕ
-value depth openings j = openedValue openings (j * openingSize depth)
+value size openings j = openedValue openings (j * size)
 
 abbrev Inv-loop : tie.InvT-loop
-Inv-loop depth count openings size at₀ j₀ at j = (j ≤ count) × (at ≡ j * openingSize depth) × (every j (λ j. ltb (value depth openings j) p) ≡ true)
+Inv-loop size count openings at₀ j₀ at j = (j ≤ count) × (at ≡ j * size) × (every j (λ j. ltb (value size openings j) p) ≡ true)
 
 abbrev μ-loop : tie.MeasureT-loop
-μ-loop depth count openings size at₀ j₀ at j = count - j
+μ-loop size count openings at₀ j₀ at j = count - j
 
-mul-size : tie.Need-mul-size Inv-loop μ-loop
-mul-size c = omega arith
-
-add-size : tie.Need-add-size Inv-loop μ-loop
-add-size c = omega arith
+opening-at : (c : tie.In-loop Inv-loop μ-loop) → (let a = c .before .before .before .args in Member (a .size) (a .count) (c .before .loop .j) (c .before .loop .at) (a .openings .now))
+opening-at c = record { inside = c .loop-test .taken; place = c .before .loop .inv .1; long = c .before .before .before .pre .1 }
 
 loop-holds : tie.Need-loop-holds Inv-loop μ-loop
-loop-holds c = (omega arith, omega arith, every-none _)
+loop-holds c = (omega arith, sym (zero-mul _), every-none _)
 
 value-at-requires : tie.Need-value-at-requires Inv-loop μ-loop
-value-at-requires c κs =
-    let a = c .before .before .before .args in
-    omega (arith, member-inside (a .count) (openingSize (a .depth)) (c .before .loop .j) (omega arith))
+value-at-requires c κs = let h = within (opening-at c) in omega arith
 
 returns : tie.Need-returns Inv-loop μ-loop
 returns c =
     let a = c .before .before .before .before .before .args in
     let l = c .before .before .before .loop in
-    below-fails p _ (value (a .depth) (a .openings .now)) (l .j) (omega arith) (c .before .value-at .ensures ∙ ap (openedValue (a .openings .now)) (l .inv .1)) (c .if1 .taken)
+    below-fails p _ (value (a .size) (a .openings .now)) (l .j) (omega arith) (c .before .value-at .ensures ∙ ap (openedValue (a .openings .now)) (l .inv .1)) (c .if1 .taken)
 
 add-at : tie.Need-add-at Inv-loop μ-loop
-add-at c =
-    let a = c .before .before .before .before .before .args in
-    omega (arith, member-inside (a .count) (openingSize (a .depth)) (c .before .before .before .loop .j) (omega arith))
+add-at c = let h = within (opening-at (c .before .before)) in omega arith
 
 add-j : tie.Need-add-j Inv-loop μ-loop
 add-j c = omega arith
@@ -58,8 +53,8 @@ loop-again c =
     let a = c .before .before .before .before .before .args in
     let l = c .before .before .before .loop in (
       omega arith,
-      member-next (openingSize (a .depth)) (l .j) (l .inv .1),
-      below-more p (value (a .depth) (a .openings .now)) (l .j) (l .inv .2) (c .before .value-at .ensures ∙ ap (openedValue (a .openings .now)) (l .inv .1)) (c .if1 .left),
+      next-place (a .size) (l .j) (l .inv .1),
+      below-more p (value (a .size) (a .openings .now)) (l .j) (l .inv .2) (c .before .value-at .ensures ∙ ap (openedValue (a .openings .now)) (l .inv .1)) (c .if1 .left),
     )
 
 returns-2 : tie.Need-returns-2 Inv-loop μ-loop
@@ -71,8 +66,6 @@ opened-below-spec =
     (tie.spec
     Inv-loop
     μ-loop
-    mul-size
-    add-size
     loop-holds
     value-at-requires
     returns

@@ -17,7 +17,7 @@ fits-here c =
 r-below : (c : tie.Else2) → (let a = c .before .before .before .before .before .before .before .before .before .before .before .args in elementsBelow (a .r .now) ≡ true)
 r-below c =
     let a = c .before .before .before .before .before .before .before .before .before .before .before .args in
-    cast-below (a .m) (a .n) (a .k) (a .a .now) (a .b .now) (a .c .now) (a .r .now) (a .x .now) (a .w .now) (a .item .now) (passed (c .before .below .ensures) (c .if2 .left)) .0
+    cast-below (a .a .now) (a .b .now) (a .c .now) (a .r .now) (a .x .now) (a .w .now) (passed (c .before .below .ensures) (c .if2 .left)) .r-below
 
 fits-requires : tie.Need-fits-requires
 fits-requires c κs = search needs
@@ -35,7 +35,7 @@ returns-2 c =
     fails 3 _ (c .before .below .ensures) (c .if2 .taken))
 
 circuit-in-order-requires : tie.Need-circuit-in-order-requires
-circuit-in-order-requires c κs = let h = fits-here (c .before .before) in (h .sizes .bits, h .sizes .inputs, h .sizes .few)
+circuit-in-order-requires c κs = let h = fits-here (c .before .before) in (h .sizes .m-most, h .sizes .n-most, h .sizes .k-most)
 
 returns-3 : tie.Need-returns-3
 returns-3 c =
@@ -48,7 +48,7 @@ returns-3 c =
 holds-requires : tie.Need-holds-requires
 holds-requires c κs =
     let h = fits-here (c .before .before .before .before) in
-    ((h .sizes .bits, h .sizes .inputs, h .sizes .few, h .r-length, h .x-length, h .w-length), (r-below (c .before .before), passed (c .before .circuit-in-order .ensures) (c .if3 .left)))
+    ((h .sizes .m-most, h .sizes .n-most, h .sizes .k-most, h .r-length, h .x-length, h .w-length), (r-below (c .before .before), passed (c .before .circuit-in-order .ensures) (c .if3 .left)))
 
 returns-4 : tie.Need-returns-4
 returns-4 c =

@@ -1,6 +1,7 @@
 -- `decide::fits` meets its contract.
-use mathlib.Core.Path.{refl, ap₂}
+use mathlib.Core.Path.{refl, ap, ap₂}
 use mathlib.Core.Bool.{_&&_}
+use lib.Dec.{eqb}
 use borrow.Author.Needs.{needs}
 use Rattle.decider.proofs.decide.fits.Statement.{statement}
 use Rattle.decider.proofs.decide.fits.Tie as tie
@@ -11,37 +12,16 @@ sizes-requires c κs = search needs
 circuit-fits-requires : tie.Need-circuit-fits-requires
 circuit-fits-requires c κs = search needs
 
+size-requires : tie.Need-size-requires
+size-requires c κs = search needs
+
 mul-result : tie.Need-mul-result
 mul-result c = search needs
 
-add-result : tie.Need-add-result
-add-result c = search needs
-
-mul-result-2 : tie.Need-mul-result-2
-mul-result-2 c = search needs
-
-add-result-2 : tie.Need-add-result-2
-add-result-2 c = search needs
-
-add-result-3 : tie.Need-add-result-3
-add-result-3 c = search needs
-
-mul-result-3 : tie.Need-mul-result-3
-mul-result-3 c = search needs
-
 returns : tie.Need-returns
-returns c = ap₂ _&&_ (ap₂ _&&_ (ap₂ _&&_ (c .before .sizes .ensures) (c .circuit-fits .ensures)) refl) refl
+returns c =
+    ap₂ _&&_ (ap₂ _&&_ (ap₂ _&&_ (c .before .before .sizes .ensures) (c .before .circuit-fits .ensures)) (ap (eqb _) (c .size .ensures))) refl
 
 pub fits-spec : {M : Type 1} → statement M
 fits-spec =
-    tie.close
-    (tie.spec
-    sizes-requires
-    circuit-fits-requires
-    mul-result
-    add-result
-    mul-result-2
-    add-result-2
-    add-result-3
-    mul-result-3
-    returns)
+    tie.close (tie.spec sizes-requires circuit-fits-requires size-requires mul-result returns)

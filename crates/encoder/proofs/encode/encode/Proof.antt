@@ -1,17 +1,19 @@
 -- `encode` meets its contract: a refusal writes nothing.
 use mathlib.Core.Path.{sym, _∙_}
-use Rattle.theory.specs.Calls.{encode}
+use Rattle.theory.specs.Fp.{fp}
+use Rattle.theory.specs.Calls.{encode as encodeOf}
+use Rattle.theory.proofs.Passed.{EncodePasses, encode-passes}
 use Rattle.checks.proofs.Calls.{refused, accepted}
-use Rattle.encoder.proofs.Accepted.{EncodeAccepted, encode-accepted}
+use Rattle.encoder.proofs.Accepted.{encode-fits}
 use borrow.Author.Needs.{needs}
 use Rattle.encoder.proofs.encode.encode.Statement.{statement}
 use Rattle.encoder.proofs.encode.encode.Tie as tie
 
 -- The call goes on: every check passed.
-passed : (c : tie.Else1) → (let a = c .before .before .before .before .before .before .before .args in EncodeAccepted (a .k) (a .w .now) (a .code .now) (a .root .now))
+passed : (c : tie.Else1) → (let a = c .before .before .before .before .before .before .before .args in EncodePasses fp (a .k) (a .w .now) (a .code .now) (a .root .now))
 passed c =
     let a = c .before .before .before .before .before .before .before .args in
-    encode-accepted (a .k) (a .w .now) (a .code .now) (a .root .now) (sym (c .before .verdict .ensures) ∙ c .if1 .left)
+    encode-passes fp (a .k) (a .w .now) (a .code .now) (a .root .now) (sym (c .before .verdict .ensures) ∙ c .if1 .left)
 
 verdict-requires : tie.Need-verdict-requires
 verdict-requires c κs = search needs
@@ -23,7 +25,7 @@ same-length-2 : tie.Need-same-length-2
 same-length-2 c = search needs
 
 returns : tie.Need-returns
-unfolding encode
+unfolding encodeOf
 returns c =
     let v = c .before .verdict in
     let a = c .before .before .before .before .before .before .before .args in
@@ -31,8 +33,10 @@ returns c =
 
 write-requires : tie.Need-write-requires
 write-requires c κs =
-    let h = passed (c .before .before) in
-    (h .fits .count, h .fits .w-length, h .elements-below, h .fits .code-length, h .fits .root-length)
+    let a = c .before .before .before .before .before .before .before .before .before .args in
+    let t = passed (c .before .before) in
+    let h = encode-fits (a .k) (a .w .now) (a .code .now) (a .root .now) (t .fits) in
+    (h .count, h .w-length, t .below, h .code-length, h .root-length)
 
 same-length-3 : tie.Need-same-length-3
 same-length-3 c = search needs
@@ -41,7 +45,7 @@ same-length-4 : tie.Need-same-length-4
 same-length-4 c = search needs
 
 returns-2 : tie.Need-returns-2
-unfolding encode
+unfolding encodeOf
 returns-2 c =
     let on = c .before .before .before .before .before .before .before in
     let v = on .before .verdict in

@@ -1,5 +1,4 @@
 -- `encode::fits` meets its contract.
-
 use borrow.Author.Needs.{needs}
 use Rattle.encoder.proofs.encode.fits.Statement.{statement}
 use Rattle.encoder.proofs.encode.fits.Tie as tie
@@ -13,8 +12,11 @@ mul-result c = search needs
 mul-result-2 : tie.Need-mul-result-2
 mul-result-2 c = search needs
 
+mul-result-3 : tie.Need-mul-result-3
+mul-result-3 c = search needs
+
 returns : tie.Need-returns
 returns c = rw (c .is-witness-count .ensures)
 
 pub fits-spec : {M : Type 1} → statement M
-fits-spec = tie.close (tie.spec is-witness-count-requires mul-result mul-result-2 returns)
+fits-spec = tie.close (tie.spec is-witness-count-requires mul-result mul-result-2 mul-result-3 returns)

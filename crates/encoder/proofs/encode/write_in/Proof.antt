@@ -5,7 +5,7 @@ use native.Mathlib.Omega.{arith}
 use lib.ListN.{length}
 use Rattle.numbers.specs.Numbers.{bytes}
 use Rattle.tree.proofs.Written.{copied-over}
-use Rattle.theory.specs.Buffers.{elements}
+use Rattle.theory.specs.Fp.{elements}
 use Rattle.checks.proofs.WitnessLaws.{root-read, codeword-leaves}
 use borrow.Author.Needs.{needs}
 use Rattle.encoder.proofs.encode.write_in.Statement.{statement}

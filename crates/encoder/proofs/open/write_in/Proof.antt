@@ -1,7 +1,7 @@
 -- `open::write_in` meets its contract: the openings are those of the codeword.
 use mathlib.Core.Path.{_∙_}
 use native.Mathlib.Omega.{arith}
-use Rattle.theory.specs.Buffers.{elements}
+use Rattle.theory.specs.Fp.{elements}
 use Rattle.checks.proofs.WitnessLaws.{codeword-leaves}
 use Rattle.encoder.proofs.OpeningLaws.{depth-few, openings-read, positions-inside, openings-room}
 use borrow.Author.Needs.{needs}

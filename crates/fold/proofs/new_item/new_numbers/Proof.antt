@@ -8,17 +8,11 @@ use borrow.Author.Needs.{needs}
 use Rattle.fold.proofs.new_item.new_numbers.Statement.{statement}
 use Rattle.fold.proofs.new_item.new_numbers.Tie as tie
 
-add-combine : tie.Need-add-combine
-add-combine c = search needs
-
-add-combine-2 : tie.Need-add-combine-2
-add-combine-2 c = search needs
-
 combine-requires : tie.Need-combine-requires
 combine-requires c κs =
     let s = c .before .before .before .before .before in
     let a = s .args in
-    (omega (arith, length-weights (a .l) (a .at) (s .pre .6), s .pre .2), numbers-inside (a .m) (a .n) (a .l) (a .at) (a .items .now) (s .pre .5) (s .pre .6) _ (s .pre .8))
+    (omega (arith, length-weights (a .l) (a .at) (s .pre .6), s .pre .2), numbers-inside (a .m) (a .n) (a .l) (a .stride) (a .at) (a .items .now) (s .pre .9) (s .pre .5) (s .pre .6) _ (s .pre .8))
 
 new-e-requires : tie.Need-new-e-requires
 new-e-requires c κs = search needs
@@ -33,14 +27,12 @@ returns : tie.Need-returns
 returns c =
     let s = c .before .before .before .before .before .before .before .before .before in
     let a = s .args in
-    new-numbers (a .m) (a .n) (a .l) (a .at) (a .items .now) (s .pre .5) (s .pre .6) (map ofℕ (a .quotient .now)) (s .pre .8) (c .before .before .before .combine .ensures) (c .new-e .ensures)
+    new-numbers (a .m) (a .n) (a .l) (a .stride) (a .at) (a .items .now) (s .pre .9) (s .pre .5) (s .pre .6) (map ofℕ (a .quotient .now)) (s .pre .8) (c .before .before .before .combine .ensures) (c .new-e .ensures)
 
 pub new-numbers-spec : {M : Type 1} → statement M
 new-numbers-spec =
     tie.close
     (tie.spec
-    add-combine
-    add-combine-2
     combine-requires
     new-e-requires
     slice-write-out

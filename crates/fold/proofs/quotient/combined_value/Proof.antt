@@ -1,4 +1,4 @@
--- `fold::quotient::combined_value` meets its contract: it lends two arrays.
+-- `fold::quotient::combined_value` meets its contract: it passes two arrays as scratch space.
 use native.Mathlib.Omega.{arith}
 use lib.Seq.{length-take-le}
 use mathlib.Core.Path.{sym}

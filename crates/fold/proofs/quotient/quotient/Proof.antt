@@ -11,11 +11,11 @@ use Rattle.fold.proofs.quotient.quotient.Statement.{statement}
 use Rattle.fold.proofs.quotient.quotient.Tie as tie
 
 abbrev Inv-loop : tie.InvT-loop
-Inv-loop m n k l a b c items wits out₀ inverses i₀ out i =
+Inv-loop m n k l stride a b c items wits out₀ inverses i₀ out i =
     (inverses ≡ smallInverses) × (length out ≡ length out₀) × (i ≤ length out) × Filled (value m n k l a b c items wits) i out
 
 abbrev μ-loop : tie.MeasureT-loop
-μ-loop m n k l a b c items wits out₀ inverses i₀ out i = length out - i
+μ-loop m n k l stride a b c items wits out₀ inverses i₀ out i = length out - i
 
 inverses-requires : tie.Need-inverses-requires Inv-loop μ-loop
 inverses-requires c κs = tt
@@ -31,7 +31,7 @@ quotient-value-requires c κs =
     let s = c .before .before .before .before .before .before .before .before .before .before in
     let f = s .pre .0 in
     let l = c .before .before .loop in
-    (f, omega (arith, quotientSize-most (s .args .m) (s .args .l) (f .m-most) (f .l-most), s .pre .1, l .inv .1, f .l-most), l .inv .0)
+    (f, omega (arith, quotientSize-most (s .args .m) (s .args .l) (f .m-most) (f .l-most), s .pre .1, l .inv .1, f .l-most), l .inv .0, s .pre .2)
 
 mul-out : tie.Need-mul-out Inv-loop μ-loop
 mul-out c = omega arith

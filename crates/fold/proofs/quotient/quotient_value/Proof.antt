@@ -1,4 +1,4 @@
--- `fold::quotient::quotient_value` meets its contract: it lends an array.
+-- `fold::quotient::quotient_value` meets its contract: it passes an array as scratch space.
 use lib.Seq.{length-take-le}
 use mathlib.Core.Path.{sym}
 use borrow.Author.Needs.{needs}
@@ -12,7 +12,7 @@ slice-aggregate-quotient-value-in : tie.Need-slice-aggregate-quotient-value-in
 slice-aggregate-quotient-value-in c = let s = c .before .before .before .before .before .before .before in sym (length-take-le (s .args .l) _ (s .pre .0 .l-most))
 
 quotient-value-in-requires : tie.Need-quotient-value-in-requires
-quotient-value-in-requires c κs = let s = c .before .before .before .before .before .before .before in (s .pre .0, s .pre .1, s .pre .2, length-take-le (s .args .l) _ (s .pre .0 .l-most))
+quotient-value-in-requires c κs = let s = c .before .before .before .before .before .before .before in (s .pre .0, s .pre .1, s .pre .2, length-take-le (s .args .l) _ (s .pre .0 .l-most), s .pre .3)
 
 returns : tie.Need-returns
 returns c = search needs

@@ -17,16 +17,13 @@ lagrange-requires : tie.Need-lagrange-requires
 lagrange-requires c κs = search needs
 
 combined-value-requires : tie.Need-combined-value-requires
-combined-value-requires c κs = let s = c .before .before .before .before .before .before .before .before .before .before .before .before in weights-fit (s .pre .0) (s .args .l + s .args .i) (s .args .weights .now) (s .pre .3) (c .before .before .before .lagrange .ensures)
-
-add-weighted : tie.Need-add-weighted
-add-weighted c = search needs
-
-add-weighted-2 : tie.Need-add-weighted-2
-add-weighted-2 c = search needs
+combined-value-requires c κs =
+    let s = c .before .before .before .before .before .before .before .before .before .before .before .before in
+    let w = weights-fit (s .pre .0) (s .args .l + s .args .i) (s .args .weights .now) (s .pre .3) (c .before .before .before .lagrange .ensures) in
+    (w .0, w .1, s .pre .4)
 
 weighted-requires : tie.Need-weighted-requires
-weighted-requires c κs = let s = c .before .before .before .before .before .before .before .before .before .before .before .before .before .before in e-inside (s .args .l) (s .args .l + s .args .i) (weights-are (s .pre .0) (s .args .l + s .args .i) (s .args .weights .now) (s .pre .3) (c .before .before .before .before .before .lagrange .ensures)) (s .args .m) (s .args .n) (s .args .items .now) (s .pre .0 .items-size)
+weighted-requires c κs = let s = c .before .before .before .before .before .before .before .before .before .before .before .before .before .before in e-inside (s .args .l) (s .args .l + s .args .i) (weights-are (s .pre .0) (s .args .l + s .args .i) (s .args .weights .now) (s .pre .3) (c .before .before .before .before .before .lagrange .ensures)) (s .args .m) (s .args .n) (s .args .stride) (s .args .items .now) (s .pre .4) (s .pre .0 .items-size)
 
 sub-requires : tie.Need-sub-requires
 sub-requires c κs = (below-p _ (c .before .before .combined-value .ensures), below-p _ (c .weighted .ensures))
@@ -43,7 +40,7 @@ same-length c = search needs
 returns : tie.Need-returns
 returns c =
     let s = c .before .before .before .before .before .before .before .before .before .before .before .before .before .before .before .before .before .before in
-    quotient-value-is (s .pre .0) (s .args .l + s .args .i) (s .args .weights .now) (s .pre .3) (c .before .before .before .before .before .before .before .before .before .lagrange .ensures) (c .before .before .before .before .before .combined-value .ensures) (c .before .before .before .weighted .ensures) (c .before .before .sub .ensures) (c .before .inverse-vanishing .ensures) (c .mul .ensures)
+    quotient-value-is (s .pre .0) (s .args .l + s .args .i) (s .args .weights .now) (s .pre .3) (c .before .before .before .before .before .before .before .before .before .lagrange .ensures) (s .args .stride) (s .pre .4) (c .before .before .before .before .before .combined-value .ensures) (c .before .before .before .weighted .ensures) (c .before .before .sub .ensures) (c .before .inverse-vanishing .ensures) (c .mul .ensures)
 
 pub quotient-value-in-spec : {M : Type 1} → statement M
 quotient-value-in-spec =
@@ -53,8 +50,6 @@ quotient-value-in-spec =
     cast-at
     lagrange-requires
     combined-value-requires
-    add-weighted
-    add-weighted-2
     weighted-requires
     sub-requires
     inverse-vanishing-requires

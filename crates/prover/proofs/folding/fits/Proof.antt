@@ -1,6 +1,6 @@
 -- `folding::fits` meets its contract.
-use Rattle.checks.proofs.Calls.{passed, failed, and-fails-4, and-passes-4}
-use Rattle.prover.proofs.Listed.{listed}
+use Rattle.checks.proofs.Calls.{passed, failed, and-fails, and-passes}
+use Rattle.checks.proofs.Listed.{listed}
 use borrow.Author.Needs.{needs}
 use Rattle.prover.proofs.folding.fits.Statement.{statement}
 use Rattle.prover.proofs.folding.fits.Tie as tie
@@ -9,16 +9,16 @@ fits-requires : tie.Need-fits-requires
 fits-requires c κs = search needs
 
 returns : tie.Need-returns
-returns c = and-fails-4 _ _ _ _ (failed (c .before .fits2 .ensures) (c .if1 .taken))
+returns c challenge = and-fails _ (failed (c .before .fits2 .ensures) (c .if1 .taken))
 
 outputs-fit-requires : tie.Need-outputs-fit-requires
 outputs-fit-requires c κs =
     let a = c .before .before .before .before .before .before .before .before .before .before .args in
     let h = listed (a .m) (a .n) (a .k) (a .l) (a .a .now) (a .b .now) (a .c .now) (a .items .now) (a .wits .now) (passed (c .before .fits2 .ensures) (c .if1 .left)) in
-    (h .m-most, h .n-most, h .k-most, h .l-least, h .l-most)
+    (h .sizes .m-most, h .sizes .n-most, h .sizes .k-most, h .l-least, h .l-most)
 
 returns-2 : tie.Need-returns-2
-returns-2 c = and-passes-4 _ _ _ _ (passed (c .before .before .fits2 .ensures) (c .before .if1 .left)) (c .outputs-fit .ensures)
+returns-2 c challenge = and-passes (passed (c .before .before .fits2 .ensures) (c .before .if1 .left)) (c .outputs-fit .ensures)
 
 pub fits-spec : {M : Type 1} → statement M
 fits-spec = tie.close (tie.spec fits-requires returns outputs-fit-requires returns-2)

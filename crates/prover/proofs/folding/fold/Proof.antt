@@ -1,6 +1,6 @@
 -- `folding::fold` meets its contract: a refusal leaves the buffers, an acceptance writes all three.
 use mathlib.Core.Path.{sym, _∙_}
-use Rattle.theory.specs.Calls.{fold}
+use Rattle.theory.specs.Calls.{fold as foldOf}
 use Rattle.checks.proofs.Calls.{refused, accepted}
 use Rattle.prover.proofs.Accepted.{fold-accepted}
 use borrow.Author.Needs.{needs}
@@ -20,7 +20,7 @@ same-length-3 : tie.Need-same-length-3
 same-length-3 c = search needs
 
 returns : tie.Need-returns
-unfolding fold
+unfolding foldOf
 returns c =
     let a = c .before .before .before .before .before .before .before .before .before .before .before .before .before .args in
     let e = c .before .verdict .ensures in
@@ -41,7 +41,7 @@ same-length-6 : tie.Need-same-length-6
 same-length-6 c = search needs
 
 returns-2 : tie.Need-returns-2
-unfolding fold
+unfolding foldOf
 returns-2 c =
     let a = c .before .before .before .before .before .before .before .before .before .before .before .before .before .before .before .before .before .before .before .before .before .before .before .args in
     let e = c .before .before .before .before .before .before .before .before .before .before .before .verdict .ensures in

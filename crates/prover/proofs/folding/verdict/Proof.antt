@@ -1,82 +1,54 @@
--- `folding::verdict` meets its contract: the checks are run in their order.
-use mathlib.Core.Path.{refl}
-use Rattle.checks.proofs.Calls.{fails, passes, passed, first-of-4}
-use Rattle.prover.proofs.Listed.{Listed, listed, items-passed, wits-passed}
+-- `folding::verdict` meets its contract: check 2, check 5 between the two groups of checks of a list.
+use mathlib.Core.Path.{_≡_, sym, _∙_}
+use mathlib.Core.Bool.{true}
+use mathlib.Core.List.{_∷_}
+use Rattle.theory.specs.Checks.{check}
+use Rattle.theory.specs.Fp.{challengeFits, listFits, claimChecks}
+use Rattle.checks.proofs.Calls.{fails, passes, passed}
+use Rattle.checks.proofs.ListLaws.{list-refuses, list-accepts}
+use Rattle.prover.proofs.Accepted.{list-asked, fold-list}
 use borrow.Author.Needs.{needs}
 use Rattle.prover.proofs.folding.verdict.Statement.{statement}
 use Rattle.prover.proofs.folding.verdict.Tie as tie
 
 -- Check 2 is passed.
-list : (c : tie.Else1) → (let a = c .before .before .before .before .before .before .before .before .before .before .args in Listed (a .m) (a .n) (a .k) (a .l) (a .items .now) (a .wits .now))
+list : (c : tie.Else1) → (let a = c .before .before .before .before .before .before .before .before .before .before .args in listFits (a .m) (a .n) (a .k) (a .l) (a .a .now) (a .b .now) (a .c .now) (a .items .now) (a .wits .now) ≡ true)
 list c =
     let a = c .before .before .before .before .before .before .before .before .before .before .args in
-    listed (a .m) (a .n) (a .k) (a .l) (a .a .now) (a .b .now) (a .c .now) (a .items .now) (a .wits .now) (first-of-4 _ _ _ _ (passed (c .before .fits2 .ensures) (c .if1 .left)))
+    fold-list (a .m) (a .n) (a .k) (a .l) (a .challenge) (a .a .now) (a .b .now) (a .c .now) (a .items .now) (a .wits .now) (a .q .now) (a .item .now) (a .wit .now) (passed (c .before .fits2 .ensures (a .challenge)) (c .if1 .left))
 
 fits-requires : tie.Need-fits-requires
 fits-requires c κs = search needs
 
 returns : tie.Need-returns
-returns c = fails 2 _ (c .before .fits2 .ensures) (c .if1 .taken)
+returns c = fails 2 _ (c .before .fits2 .ensures (c .before .before .before .before .before .before .before .before .before .before .args .challenge)) (c .if1 .taken)
 
-below-requires : tie.Need-below-requires
-below-requires c κs = let h = list c in (h .m-most, h .n-most, h .items-size, h .wits-size)
+verdict-requires : tie.Need-verdict-requires
+verdict-requires c κs = let a = c .before .before .before .before .before .before .before .before .before .before .args in list-asked (a .m) (a .n) (a .k) (a .l) (a .a .now) (a .b .now) (a .c .now) (a .items .now) (a .wits .now) (list c)
 
 returns-2 : tie.Need-returns-2
-returns-2 c = passes 2 (c .before .before .before .fits2 .ensures) (c .before .before .if1 .left) (fails 3 _ (c .before .below .ensures) (c .if2 .taken))
-
-circuit-in-order-requires : tie.Need-circuit-in-order-requires
-circuit-in-order-requires c κs = let h = list (c .before .before) in (h .m-most, h .n-most, h .k-most)
-
-returns-3 : tie.Need-returns-3
-returns-3 c =
-    passes 2 (c .before .before .before .before .before .fits2 .ensures) (c .before .before .before .before .if1 .left)
-    (passes 3 (c .before .before .before .below .ensures) (c .before .before .if2 .left) (fails 4 _ (c .before .circuit-in-order .ensures) (c .if3 .taken)))
+returns-2 c =
+    let a = c .before .before .before .before .before .before .before .before .before .before .before .before .args in
+    passes 2 (c .before .before .before .fits2 .ensures (a .challenge)) (c .before .before .if1 .left)
+    (list-refuses (a .m) (a .n) (a .k) (a .l) (a .a .now) (a .b .now) (a .c .now) (a .items .now) (a .wits .now) (check 5 (challengeFits (a .l) (a .challenge)) ∷ claimChecks (a .m) (a .n) (a .k) (a .l) (a .a .now) (a .b .now) (a .c .now) (a .items .now) (a .wits .now)) (c .before .verdict .ensures) (c .if2 .taken))
 
 challenge-fits-requires : tie.Need-challenge-fits-requires
 challenge-fits-requires c κs = search needs
 
+returns-3 : tie.Need-returns-3
+returns-3 c =
+    let a = c .before .before .before .before .before .before .before .before .before .before .before .before .before .before .args in
+    passes 2 (c .before .before .before .before .before .fits2 .ensures (a .challenge)) (c .before .before .before .before .if1 .left)
+    (list-accepts (a .m) (a .n) (a .k) (a .l) (a .a .now) (a .b .now) (a .c .now) (a .items .now) (a .wits .now) (check 5 (challengeFits (a .l) (a .challenge)) ∷ claimChecks (a .m) (a .n) (a .k) (a .l) (a .a .now) (a .b .now) (a .c .now) (a .items .now) (a .wits .now)) (c .before .before .before .verdict .ensures) (c .before .before .if2 .left) (fails 5 _ (c .before .challenge-fits .ensures) (c .if3 .taken)))
+
+claims-requires : tie.Need-claims-requires
+claims-requires c κs = let a = c .before .before .before .before .before .before .before .before .before .before .before .before .before .before .args in (list-asked (a .m) (a .n) (a .k) (a .l) (a .a .now) (a .b .now) (a .c .now) (a .items .now) (a .wits .now) (list (c .before .before .before .before)), sym (c .before .before .before .verdict .ensures) ∙ c .before .before .if2 .left)
+
 returns-4 : tie.Need-returns-4
 returns-4 c =
-    passes 2 (c .before .before .before .before .before .before .before .fits2 .ensures) (c .before .before .before .before .before .before .if1 .left)
-    (passes 3 (c .before .before .before .before .before .below .ensures) (c .before .before .before .before .if2 .left)
-    (passes 4 (c .before .before .before .circuit-in-order .ensures) (c .before .before .if3 .left) (fails 5 _ (c .before .challenge-fits .ensures) (c .if4 .taken))))
-
-all-match-requires : tie.Need-all-match-requires
-all-match-requires c κs =
-    let h = list (c .before .before .before .before .before .before) in
-    let a = c .before .before .before .before .before .before .before .before .before .before .before .before .before .before .before .before .args in
-    (h .m-most, h .n-most, h .count, h .l-most, h .items-size, h .wits-size, wits-passed (a .m) (a .n) (a .l) (a .a .now) (a .b .now) (a .c .now) (a .items .now) (a .wits .now) (passed (c .before .before .before .before .before .below .ensures) (c .before .before .before .before .if2 .left)))
-
-returns-5 : tie.Need-returns-5
-returns-5 c =
-    passes 2 (c .before .before .before .before .before .before .before .before .before .fits2 .ensures) (c .before .before .before .before .before .before .before .before .if1 .left)
-    (passes 3 (c .before .before .before .before .before .before .before .below .ensures) (c .before .before .before .before .before .before .if2 .left)
-    (passes 4 (c .before .before .before .before .before .circuit-in-order .ensures) (c .before .before .before .before .if3 .left)
-    (passes 5 (c .before .before .before .challenge-fits .ensures) (c .before .before .if4 .left) (fails 10 _ (c .before .all-match .ensures) (c .if5 .taken)))))
-
-all-hold-requires : tie.Need-all-hold-requires
-all-hold-requires c κs =
-    let h = list (c .before .before .before .before .before .before .before .before) in
-    let a = c .before .before .before .before .before .before .before .before .before .before .before .before .before .before .before .before .before .before .args in (
-      (h .m-most, h .n-most, h .count, h .l-most, h .items-size, h .wits-size),
-      (items-passed (a .m) (a .n) (a .l) (a .a .now) (a .b .now) (a .c .now) (a .items .now) (a .wits .now) (passed (c .before .before .before .before .before .before .before .below .ensures) (c .before .before .before .before .before .before .if2 .left)), passed (c .before .before .before .before .before .circuit-in-order .ensures) (c .before .before .before .before .if3 .left)),
-    )
-
-returns-6 : tie.Need-returns-6
-returns-6 c =
-    passes 2 (c .before .before .before .before .before .before .before .before .before .before .before .fits2 .ensures) (c .before .before .before .before .before .before .before .before .before .before .if1 .left)
-    (passes 3 (c .before .before .before .before .before .before .before .before .before .below .ensures) (c .before .before .before .before .before .before .before .before .if2 .left)
-    (passes 4 (c .before .before .before .before .before .before .before .circuit-in-order .ensures) (c .before .before .before .before .before .before .if3 .left)
-    (passes 5 (c .before .before .before .before .before .challenge-fits .ensures) (c .before .before .before .before .if4 .left)
-    (passes 10 (c .before .before .before .all-match .ensures) (c .before .before .if5 .left) (fails 11 _ (c .before .all-hold .ensures) (c .if6 .taken))))))
-
-returns-7 : tie.Need-returns-7
-returns-7 c =
-    passes 2 (c .before .before .before .before .before .before .before .before .before .before .before .fits2 .ensures) (c .before .before .before .before .before .before .before .before .before .before .if1 .left)
-    (passes 3 (c .before .before .before .before .before .before .before .before .before .below .ensures) (c .before .before .before .before .before .before .before .before .if2 .left)
-    (passes 4 (c .before .before .before .before .before .before .before .circuit-in-order .ensures) (c .before .before .before .before .before .before .if3 .left)
-    (passes 5 (c .before .before .before .before .before .challenge-fits .ensures) (c .before .before .before .before .if4 .left)
-    (passes 10 (c .before .before .before .all-match .ensures) (c .before .before .if5 .left) (passes 11 (c .before .all-hold .ensures) (c .if6 .left) refl)))))
+    let a = c .before .before .before .before .before .before .before .before .before .before .before .before .before .before .before .args in
+    passes 2 (c .before .before .before .before .before .before .fits2 .ensures (a .challenge)) (c .before .before .before .before .before .if1 .left)
+    (list-accepts (a .m) (a .n) (a .k) (a .l) (a .a .now) (a .b .now) (a .c .now) (a .items .now) (a .wits .now) (check 5 (challengeFits (a .l) (a .challenge)) ∷ claimChecks (a .m) (a .n) (a .k) (a .l) (a .a .now) (a .b .now) (a .c .now) (a .items .now) (a .wits .now)) (c .before .before .before .before .verdict .ensures) (c .before .before .before .if2 .left) (passes 5 (c .before .before .challenge-fits .ensures) (c .before .if3 .left) (c .claims .ensures)))
 
 pub verdict-spec : {M : Type 1} → statement M
 verdict-spec =
@@ -84,14 +56,9 @@ verdict-spec =
     (tie.spec
     fits-requires
     returns
-    below-requires
+    verdict-requires
     returns-2
-    circuit-in-order-requires
-    returns-3
     challenge-fits-requires
-    returns-4
-    all-match-requires
-    returns-5
-    all-hold-requires
-    returns-6
-    returns-7)
+    returns-3
+    claims-requires
+    returns-4)

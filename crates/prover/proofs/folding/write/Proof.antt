@@ -1,9 +1,6 @@
--- `folding::write` meets its contract: it lends two arrays.
+-- `folding::write` meets its contract: it passes two arrays as scratch space.
 use mathlib.Core.Path.{sym, _∙_}
-use Prim.Native.Nat.{_≤_}
-use native.Mathlib.Omega.{arith}
 use lib.Seq.{length-take-le}
-use Rattle.fold.proofs.Quotients.{quotientSize-most}
 use borrow.Author.Needs.{needs}
 use Rattle.prover.proofs.folding.write.Statement.{statement}
 use Rattle.prover.proofs.folding.write.Tie as tie
@@ -11,16 +8,11 @@ use Rattle.prover.proofs.folding.write.Tie as tie
 quotient-size-requires : tie.Need-quotient-size-requires
 quotient-size-requires c κs = search needs
 
-few : (c : tie.After-quotient-size) → c .quotient-size .result ≤ 49
-few c =
-    let s = c .before .before .before .before .before .before .before .before .before in
-    omega (arith, c .quotient-size .ensures, quotientSize-most (s .args .m) (s .args .l) (s .pre .0 .0 .m-most) (s .pre .0 .0 .l-most))
-
 array-borrow-prefix-values : tie.Need-array-borrow-prefix-values
-array-borrow-prefix-values c = few c
+array-borrow-prefix-values c = search needs
 
 slice-aggregate-write-in : tie.Need-slice-aggregate-write-in
-slice-aggregate-write-in c = sym (length-take-le _ _ (few (c .before)))
+slice-aggregate-write-in c = sym (length-take-le _ _ (c .before .quotient-size .ensures .1))
 
 array-borrow-prefix-weights : tie.Need-array-borrow-prefix-weights
 array-borrow-prefix-weights c = search needs
@@ -31,7 +23,7 @@ slice-aggregate-write-in-2 c = let s = c .before .before .before .before .before
 write-in-requires : tie.Need-write-in-requires
 write-in-requires c κs =
     let s = c .before .before .before .before .before .before .before .before .before .before .before .before .before .before in
-    (s .pre .0, ((length-take-le _ _ (few (c .before .before .before .before .before)) ∙ c .before .before .before .before .before .quotient-size .ensures, length-take-le (s .args .l) _ (s .pre .0 .0 .l-most)), s .pre .1))
+    (s .pre .0, ((length-take-le _ _ (c .before .before .before .before .before .quotient-size .ensures .1) ∙ c .before .before .before .before .before .quotient-size .ensures .0, length-take-le (s .args .l) _ (s .pre .0 .0 .l-most)), s .pre .1))
 
 same-length : tie.Need-same-length
 same-length c = search needs

@@ -2,7 +2,7 @@
 use mathlib.Core.Path.{ap, _∙_}
 use Prim.Native.Nat.{ℕ}
 use Rattle.field.specs.BabyBear.{ofℕ}
-use Rattle.theory.specs.Calls.{listQuotient}
+use Rattle.theory.specs.Fp.{listQuotient}
 use Rattle.fold.specs.Weights.{lagrangeAt}
 use Rattle.prover.proofs.Written.{witness-length, witness-below, quotient-below, new-item-written}
 use borrow.Author.Needs.{needs}

@@ -1,6 +1,6 @@
 -- `quotient::quotient` meets its contract: a refusal leaves the buffer, an acceptance writes the quotient.
 use mathlib.Core.Path.{sym, _∙_}
-use Rattle.theory.specs.Calls.{quotient}
+use Rattle.theory.specs.Calls.{quotient as quotientOf}
 use Rattle.checks.proofs.Calls.{refused, accepted}
 use Rattle.prover.proofs.Accepted.{quotient-accepted}
 use borrow.Author.Needs.{needs}
@@ -14,7 +14,7 @@ same-length : tie.Need-same-length
 same-length c = search needs
 
 returns : tie.Need-returns
-unfolding quotient
+unfolding quotientOf
 returns c =
     let e = c .before .verdict .ensures in
     (e, refused _ (c .before .before .before .before .before .before .before .before .before .args .out .now) e (c .if1 .taken))
@@ -28,7 +28,7 @@ same-length-2 : tie.Need-same-length-2
 same-length-2 c = search needs
 
 returns-2 : tie.Need-returns-2
-unfolding quotient
+unfolding quotientOf
 returns-2 c =
     let e = c .before .before .before .before .before .verdict .ensures in
     let z = c .before .before .before .before .if1 .left in

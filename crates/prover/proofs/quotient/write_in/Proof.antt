@@ -5,6 +5,9 @@ use borrow.Author.Needs.{needs}
 use Rattle.prover.proofs.quotient.write_in.Statement.{statement}
 use Rattle.prover.proofs.quotient.write_in.Tie as tie
 
+size-requires : tie.Need-size-requires
+size-requires c κs = search needs
+
 quotient-requires : tie.Need-quotient-requires
 quotient-requires c κs = search needs
 
@@ -22,4 +25,5 @@ returns c = let e = c .before .before .before .before .before .before .before .q
 
 pub write-in-spec : {M : Type 1} → statement M
 write-in-spec =
-    tie.close (tie.spec quotient-requires store-requires same-length same-length-2 returns)
+    tie.close
+    (tie.spec size-requires quotient-requires store-requires same-length same-length-2 returns)

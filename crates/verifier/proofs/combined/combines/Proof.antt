@@ -1,4 +1,4 @@
--- `combined::combines` meets its contract: it lends two arrays.
+-- `combined::combines` meets its contract: it passes two arrays as scratch space.
 use mathlib.Core.Path.{sym}
 use native.Mathlib.Omega.{arith}
 use lib.Seq.{length-take-le}

@@ -10,7 +10,7 @@ load-requires c κs = search needs
 new-numbers-requires : tie.Need-new-numbers-requires
 new-numbers-requires c κs =
     let s = c .before .before .before .before .before .before .before .before .before .before .before .before in
-    (s .pre .0 .0, s .pre .0 .1, s .pre .0 .2, s .pre .0 .3, s .pre .0 .4, s .pre .1 .0 .0, s .pre .0 .5, quotient-below (s .args .quotient .now) (c .before .before .before .before .load .ensures) (s .pre .1 .0 .3), s .pre .1 .1 .1)
+    (s .pre .0 .0, s .pre .0 .1, s .pre .0 .2, s .pre .0 .3, s .pre .0 .4, s .pre .1 .0 .0, s .pre .0 .5, quotient-below (s .args .quotient .now) (c .before .before .before .before .load .ensures) (s .pre .1 .0 .3), s .pre .1 .1 .1, s .pre .0 .6)
 
 has-numbers-requires : tie.Need-has-numbers-requires
 has-numbers-requires c κs = search needs

@@ -7,7 +7,6 @@ use native.Mathlib.Nat.{zero-mul}
 use native.Mathlib.Omega.{arith}
 use borrow.Author.Tests.{not-true, not-false}
 use lib.ListN.{length}
-use Rattle.tree.specs.Layout.{openingSize}
 use Rattle.theory.specs.Checks.{every}
 use Rattle.checks.proofs.Laws.{every-none, every-more, every-fails, every-all}
 use Rattle.verifier.specs.Verifying.{leads}
@@ -17,24 +16,18 @@ use Rattle.verifier.proofs.opened.openings_lead.Statement.{statement}
 use Rattle.verifier.proofs.opened.openings_lead.Tie as tie
 
 abbrev Inv-loop : tie.InvT-loop
-Inv-loop m n l t depth items positions item openings size count good₀ at₀ q position i₀ good at i =
-    (good ≡ true) × (at ≡ (q * suc l + i) * openingSize depth) × (i ≤ suc l) × (every i (leads m n l depth items positions item openings q) ≡ true)
+Inv-loop size front opening l t depth items positions item openings count good₀ at₀ q position i₀ good at i =
+    (good ≡ true) × (at ≡ (q * suc l + i) * opening) × (i ≤ suc l) × (every i (leads size front opening l depth items positions item openings q) ≡ true)
 
 abbrev μ-loop : tie.MeasureT-loop
-μ-loop m n l t depth items positions item openings size count good₀ at₀ q position i₀ good at i = suc l - i
+μ-loop size front opening l t depth items positions item openings count good₀ at₀ q position i₀ good at i = suc l - i
 
 abbrev Inv-positions : tie.InvT-positions
-Inv-positions m n l t depth items positions item openings size count good₀ at₀ q₀ good at q =
-    (good ≡ true) × (at ≡ q * suc l * openingSize depth) × (q ≤ t) × (every q (λ q. every (suc l) (leads m n l depth items positions item openings q)) ≡ true)
+Inv-positions size front opening l t depth items positions item openings count good₀ at₀ q₀ good at q =
+    (good ≡ true) × (at ≡ q * suc l * opening) × (q ≤ t) × (every q (λ q. every (suc l) (leads size front opening l depth items positions item openings q)) ≡ true)
 
 abbrev μ-positions : tie.MeasureT-positions
-μ-positions m n l t depth items positions item openings size count good₀ at₀ q₀ good at q = t - q
-
-mul-size : tie.Need-mul-size Inv-loop μ-loop Inv-positions μ-positions
-mul-size c = omega arith
-
-add-size : tie.Need-add-size Inv-loop μ-loop Inv-positions μ-positions
-add-size c = omega arith
+μ-positions size front opening l t depth items positions item openings count good₀ at₀ q₀ good at q = t - q
 
 add-count : tie.Need-add-count Inv-loop μ-loop Inv-positions μ-positions
 add-count c = omega arith
@@ -52,7 +45,7 @@ loop-holds : tie.Need-loop-holds Inv-loop μ-loop Inv-positions μ-positions
 loop-holds c =
     let a = c .before .before .before .before .before .before .before .args in
     let p = c .before .before .positions in
-    (p .inv .0, p .inv .1 ∙ first-opening (a .l) (openingSize (a .depth)) (p .q), omega arith, every-none _)
+    (p .inv .0, p .inv .1 ∙ first-opening (a .l) (a .opening) (p .q), omega arith, every-none _)
 
 opening-leads-requires : tie.Need-opening-leads-requires Inv-loop μ-loop Inv-positions μ-positions
 opening-leads-requires c κs =
@@ -61,7 +54,7 @@ opening-leads-requires c κs =
     let p = c .before .before .before .before .positions in
     let l = c .before .loop in
     let h : l .i < suc (a .l) = omega arith in
-    (s .pre .0, s .pre .1, s .pre .4, s .pre .6, omega arith, omega (arith, l .inv .1, opening-within (a .l) (openingSize (a .depth)) (a .t) (p .q) (l .i) (length (a .openings .now)) (c .before .before .before .positions-test .taken) h (s .pre .7)))
+    (s .pre .0, s .pre .3, s .pre .5, omega arith, omega (arith, s .pre .1, l .inv .1, opening-within (a .l) (a .opening) (a .t) (p .q) (l .i) (length (a .openings .now)) (c .before .before .before .positions-test .taken) h (s .pre .6)))
 
 add-at : tie.Need-add-at Inv-loop μ-loop Inv-positions μ-positions
 add-at c =
@@ -70,7 +63,7 @@ add-at c =
     let p = c .before .before .before .before .before .before .positions in
     let l = c .before .before .before .loop in
     let h : l .i < suc (a .l) = omega arith in
-    omega (arith, l .inv .1, opening-within (a .l) (openingSize (a .depth)) (a .t) (p .q) (l .i) (length (a .openings .now)) (c .before .before .before .before .before .positions-test .taken) h (s .pre .7))
+    omega (arith, l .inv .1, opening-within (a .l) (a .opening) (a .t) (p .q) (l .i) (length (a .openings .now)) (c .before .before .before .before .before .positions-test .taken) h (s .pre .6))
 
 add-i : tie.Need-add-i Inv-loop μ-loop Inv-positions μ-positions
 add-i c = omega arith
@@ -84,9 +77,9 @@ loop-again c =
     let p = c .before .before .before .before .before .before .positions in
     let l = c .before .before .before .loop in (
       l .inv .0,
-      ap (λ (n : ℕ). n + openingSize (a .depth)) (l .inv .1) ∙ next-opening (a .l) (openingSize (a .depth)) (p .q) (l .i),
+      ap (λ (n : ℕ). n + a .opening) (l .inv .1) ∙ next-opening (a .l) (a .opening) (p .q) (l .i),
       omega arith,
-      every-more (leads (a .m) (a .n) (a .l) (a .depth) (a .items .now) (a .positions .now) (a .item .now) (a .openings .now) (p .q)) (l .i) (l .inv .3) (sym (leads-is (a .m) (a .n) (a .l) (a .depth) (a .items .now) (a .positions .now) (a .item .now) (a .openings .now) (p .q) (l .i) (l .inv .1) (c .before .before .before .before .get .ensures) (c .before .opening-leads .ensures)) ∙ not-false _ (c .if1 .left)),
+      every-more (leads (a .size) (a .front) (a .opening) (a .l) (a .depth) (a .items .now) (a .positions .now) (a .item .now) (a .openings .now) (p .q)) (l .i) (l .inv .3) (sym (leads-is (a .size) (a .front) (a .opening) (a .l) (a .depth) (a .items .now) (a .positions .now) (a .item .now) (a .openings .now) (p .q) (l .i) (l .inv .1) (c .before .before .before .before .get .ensures) (c .before .opening-leads .ensures)) ∙ not-false _ (c .if1 .left)),
     )
 
 add-q : tie.Need-add-q Inv-loop μ-loop Inv-positions μ-positions
@@ -101,16 +94,16 @@ positions-again c =
     let p = c .before .before .before .before .positions in
     let l = c .before .loop in (
       l .inv .0,
-      l .inv .1 ∙ next-position (a .l) (openingSize (a .depth)) (p .q) (l .i) (omega arith),
+      l .inv .1 ∙ next-position (a .l) (a .opening) (p .q) (l .i) (omega arith),
       omega arith,
-      every-more (λ q. every (suc (a .l)) (leads (a .m) (a .n) (a .l) (a .depth) (a .items .now) (a .positions .now) (a .item .now) (a .openings .now) q)) (p .q) (p .inv .3) (sym (every-all (suc (a .l)) (leads (a .m) (a .n) (a .l) (a .depth) (a .items .now) (a .positions .now) (a .item .now) (a .openings .now) (p .q)) (l .i) (omega arith) (omega arith) (l .inv .3))),
+      every-more (λ q. every (suc (a .l)) (leads (a .size) (a .front) (a .opening) (a .l) (a .depth) (a .items .now) (a .positions .now) (a .item .now) (a .openings .now) q)) (p .q) (p .inv .3) (sym (every-all (suc (a .l)) (leads (a .size) (a .front) (a .opening) (a .l) (a .depth) (a .items .now) (a .positions .now) (a .item .now) (a .openings .now) (p .q)) (l .i) (omega arith) (omega arith) (l .inv .3))),
     )
 
 returns : tie.Need-returns Inv-loop μ-loop Inv-positions μ-positions
 returns c =
     let a = c .before .before .before .before .before .before .args in
     let p = c .before .positions in
-    p .inv .0 ∙ every-all (a .t) (λ q. every (suc (a .l)) (leads (a .m) (a .n) (a .l) (a .depth) (a .items .now) (a .positions .now) (a .item .now) (a .openings .now) q)) (p .q) (omega arith) (omega arith) (p .inv .3)
+    p .inv .0 ∙ every-all (a .t) (λ q. every (suc (a .l)) (leads (a .size) (a .front) (a .opening) (a .l) (a .depth) (a .items .now) (a .positions .now) (a .item .now) (a .openings .now) q)) (p .q) (omega arith) (omega arith) (p .inv .3)
 
 returns-2 : tie.Need-returns-2 Inv-loop μ-loop Inv-positions μ-positions
 returns-2 c =
@@ -118,8 +111,8 @@ returns-2 c =
     let p = c .before .before .before .before .before .before .positions in
     let l = c .before .before .before .loop in
     let h : l .i < suc (a .l) = omega arith in
-    every-fails (a .t) (λ q. every (suc (a .l)) (leads (a .m) (a .n) (a .l) (a .depth) (a .items .now) (a .positions .now) (a .item .now) (a .openings .now) q)) (p .q) (c .before .before .before .before .before .positions-test .taken)
-    (sym (every-fails (suc (a .l)) (leads (a .m) (a .n) (a .l) (a .depth) (a .items .now) (a .positions .now) (a .item .now) (a .openings .now) (p .q)) (l .i) h (sym (leads-is (a .m) (a .n) (a .l) (a .depth) (a .items .now) (a .positions .now) (a .item .now) (a .openings .now) (p .q) (l .i) (l .inv .1) (c .before .before .before .before .get .ensures) (c .before .opening-leads .ensures)) ∙ not-true _ (c .if1 .taken))))
+    every-fails (a .t) (λ q. every (suc (a .l)) (leads (a .size) (a .front) (a .opening) (a .l) (a .depth) (a .items .now) (a .positions .now) (a .item .now) (a .openings .now) q)) (p .q) (c .before .before .before .before .before .positions-test .taken)
+    (sym (every-fails (suc (a .l)) (leads (a .size) (a .front) (a .opening) (a .l) (a .depth) (a .items .now) (a .positions .now) (a .item .now) (a .openings .now) (p .q)) (l .i) h (sym (leads-is (a .size) (a .front) (a .opening) (a .l) (a .depth) (a .items .now) (a .positions .now) (a .item .now) (a .openings .now) (p .q) (l .i) (l .inv .1) (c .before .before .before .before .get .ensures) (c .before .opening-leads .ensures)) ∙ not-true _ (c .if1 .taken))))
 
 pub openings-lead-spec : {M : Type 1} → statement M
 openings-lead-spec =
@@ -129,8 +122,6 @@ openings-lead-spec =
     μ-loop
     Inv-positions
     μ-positions
-    mul-size
-    add-size
     add-count
     positions-holds
     get-requires

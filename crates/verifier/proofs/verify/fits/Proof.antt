@@ -1,13 +1,19 @@
 -- `verify::fits` meets its contract.
+use mathlib.Core.Path.{_≡_}
+use mathlib.Core.Bool.{true, _&&_}
 use native.Mathlib.Omega.{arith}
-use mathlib.Core.Path.{_∙_, sym}
-use borrow.Author.Tests.{not-false}
+use Rattle.numbers.proofs.Tests.{and-left, and-right}
 use Rattle.theory.specs.Sizes.{sizes, itemCountFits}
-use Rattle.theory.proofs.CheckLaws.{and-left}
-use Rattle.verifier.proofs.Counting.{count-most, witness-count, counts-fit, sizes-refused, sizes-hold, positions-refused, fits-are}
+use Rattle.checks.proofs.Calls.{passed}
+use Rattle.checks.proofs.Listed.{sized, first-passes}
+use Rattle.verifier.proofs.Counting.{counts-fit, sizes-refused, positions-refused, lengths-decide}
 use borrow.Author.Needs.{needs}
 use Rattle.verifier.proofs.verify.fits.Statement.{statement}
 use Rattle.verifier.proofs.verify.fits.Tie as tie
+
+-- The sizes and the count of items are permitted.
+allowed : (c : tie.Else1) → (let a = c .before .before .before .before .before .before .before .before .args in (sizes (a .m) (a .n) (a .k) && itemCountFits (a .l)) ≡ true)
+allowed c = first-passes (c .before .before .sizes .ensures) (c .before .item-count-fits .ensures) (c .if1 .left)
 
 sizes-requires : tie.Need-sizes-requires
 sizes-requires c κs = search needs
@@ -16,27 +22,30 @@ item-count-fits-requires : tie.Need-item-count-fits-requires
 item-count-fits-requires c κs = search needs
 
 returns : tie.Need-returns
-returns c = let a = c .before .before .before .before .before .before .before .before .args in sizes-refused (a .m) (a .n) (a .k) (a .l) (a .t) (a .items .now) (a .positions .now) (a .quotient .now) (a .item .now) (a .openings .now) (c .before .before .sizes .ensures) (c .before .item-count-fits .ensures) (c .if1 .taken)
+returns c challenge =
+    let a = c .before .before .before .before .before .before .before .before .args in
+    sizes-refused (a .m) (a .n) (a .k) (a .l) (a .t) (a .items .now) (a .positions .now) (a .quotient .now) (a .item .now) (a .openings .now) challenge (c .before .before .sizes .ensures) (c .before .item-count-fits .ensures) (c .if1 .taken)
 
 position-count-fits-requires : tie.Need-position-count-fits-requires
 position-count-fits-requires c κs =
     let a = c .before .before .before .before .before .before .before .before .args in
-    omega (arith, count-most (a .k) (witness-count (a .m) (a .n) (a .k) (and-left (sizes (a .m) (a .n) (a .k)) (itemCountFits (a .l)) (sizes-hold (a .m) (a .n) (a .k) (a .l) (a .t) (a .items .now) (a .positions .now) (a .quotient .now) (a .item .now) (a .openings .now) (c .before .before .sizes .ensures) (c .before .item-count-fits .ensures) (c .if1 .left)))))
+    omega (arith, sized (a .m) (a .n) (a .k) (and-left (sizes (a .m) (a .n) (a .k)) (itemCountFits (a .l)) (allowed c)) .k-most)
 
 returns-2 : tie.Need-returns-2
-returns-2 c =
+returns-2 c challenge =
     let a = c .before .before .before .before .before .before .before .before .before .before .args in
-    positions-refused (a .m) (a .n) (a .k) (a .l) (a .t) (a .items .now) (a .positions .now) (a .quotient .now) (a .item .now) (a .openings .now) (c .before .before .before .before .sizes .ensures) (c .before .before .before .item-count-fits .ensures) (c .before .position-count-fits .ensures) (c .before .before .if1 .left) (c .if2 .taken)
+    positions-refused (a .m) (a .n) (a .k) (a .l) (a .t) (a .items .now) (a .positions .now) (a .quotient .now) (a .item .now) (a .openings .now) challenge (allowed (c .before .before)) (c .before .position-count-fits .ensures) (c .if2 .taken)
 
 lengths-fit-requires : tie.Need-lengths-fit-requires
 lengths-fit-requires c κs =
     let a = c .before .before .before .before .before .before .before .before .before .before .args in
-    counts-fit (a .m) (a .n) (a .k) (a .l) (a .t) (sizes-hold (a .m) (a .n) (a .k) (a .l) (a .t) (a .items .now) (a .positions .now) (a .quotient .now) (a .item .now) (a .openings .now) (c .before .before .before .before .sizes .ensures) (c .before .before .before .item-count-fits .ensures) (c .before .before .if1 .left)) (sym (c .before .position-count-fits .ensures) ∙ not-false _ (c .if2 .left))
+    let h = allowed (c .before .before) in
+    counts-fit (a .m) (a .n) (a .k) (a .l) (a .t) (and-left (sizes (a .m) (a .n) (a .k)) (itemCountFits (a .l)) h) (and-right (sizes (a .m) (a .n) (a .k)) (itemCountFits (a .l)) h) (passed (c .before .position-count-fits .ensures) (c .if2 .left))
 
 returns-3 : tie.Need-returns-3
-returns-3 c =
+returns-3 c challenge =
     let a = c .before .before .before .before .before .before .before .before .before .before .before .args in
-    c .lengths-fit .ensures ∙ fits-are (a .m) (a .n) (a .k) (a .l) (a .t) (a .items .now) (a .positions .now) (a .quotient .now) (a .item .now) (a .openings .now) (c .before .before .before .before .before .sizes .ensures) (c .before .before .before .before .item-count-fits .ensures) (c .before .before .position-count-fits .ensures) (c .before .before .before .if1 .left) (c .before .if2 .left)
+    lengths-decide (a .m) (a .n) (a .k) (a .l) (a .t) (a .items .now) (a .positions .now) (a .quotient .now) (a .item .now) (a .openings .now) challenge (allowed (c .before .before .before)) (c .before .before .position-count-fits .ensures) (c .before .if2 .left) (c .lengths-fit .ensures)
 
 pub fits-spec : {M : Type 1} → statement M
 fits-spec =

@@ -5,35 +5,20 @@ use Rattle.verifier.proofs.Counting.{t-few, depth-few, items-few, quoti
 use Rattle.verifier.proofs.verify.lengths_fit.Statement.{statement}
 use Rattle.verifier.proofs.verify.lengths_fit.Tie as tie
 
-mul-size : tie.Need-mul-size
-mul-size c = search needs
-
-add-size : tie.Need-add-size
-add-size c = search needs
-
-mul-size-2 : tie.Need-mul-size-2
-mul-size-2 c = search needs
-
-add-size-2 : tie.Need-add-size-2
-add-size-2 c = search needs
-
-add-size-3 : tie.Need-add-size-3
-add-size-3 c = search needs
+size-requires : tie.Need-size-requires
+size-requires c κs = search needs
 
 depth-of-requires : tie.Need-depth-of-requires
 depth-of-requires c κs = search needs
 
-mul-opening : tie.Need-mul-opening
-mul-opening c = omega (arith, c .depth-of .ensures, depth-few (c .before .before .before .before .before .before .pre))
-
-add-opening : tie.Need-add-opening
-add-opening c = omega (arith, c .depth-of .ensures, depth-few (c .before .before .before .before .before .before .pre))
+opening-size-requires : tie.Need-opening-size-requires
+opening-size-requires c κs = omega (arith, c .depth-of .ensures, depth-few (c .before .before .before .before .before .before .before .pre))
 
 mul-result : tie.Need-mul-result
-mul-result c = omega (arith, items-few (c .before .before .before .before .before .before .pre))
+mul-result c = omega (arith, items-few (c .before .before .before .before .before .before .before .before .pre) (c .before .before .size .ensures))
 
 mul-result-2 : tie.Need-mul-result-2
-mul-result-2 c = omega (arith, t-few (c .before .before .before .before .before .before .pre))
+mul-result-2 c = omega (arith, t-few (c .before .before .before .before .before .before .before .before .pre))
 
 sub-result : tie.Need-sub-result
 sub-result c = search needs
@@ -42,35 +27,32 @@ add-result : tie.Need-add-result
 add-result c = search needs
 
 mul-result-3 : tie.Need-mul-result-3
-mul-result-3 c = omega (arith, quotient-few (c .before .before .before .before .before .before .pre))
+mul-result-3 c = omega (arith, quotient-few (c .before .before .before .before .before .before .before .before .pre))
 
 mul-result-4 : tie.Need-mul-result-4
-mul-result-4 c = omega (arith, quotient-few (c .before .before .before .before .before .before .pre))
+mul-result-4 c = omega (arith, quotient-few (c .before .before .before .before .before .before .before .before .pre))
 
 add-result-2 : tie.Need-add-result-2
 add-result-2 c = search needs
 
 mul-result-5 : tie.Need-mul-result-5
-mul-result-5 c = omega (arith, openings-few (c .before .before .before .before .before .before .pre))
+mul-result-5 c = omega (arith, openings-few (c .before .before .before .before .before .before .before .before .pre))
 
 mul-result-6 : tie.Need-mul-result-6
-mul-result-6 c = omega (arith, openings-size-few (c .before .before .before .before .before .before .pre) (c .depth-of .ensures))
+mul-result-6 c = omega (arith, openings-size-few (c .before .before .before .before .before .before .before .before .pre) (c .opening-size .ensures) (c .before .depth-of .ensures))
 
 returns : tie.Need-returns
-returns c = let a = c .before .before .before .before .before .before .args in lengths-are (a .m) (a .n) (a .k) (a .l) (a .t) (a .items .now) (a .positions .now) (a .quotient .now) (a .item .now) (a .openings .now) (c .depth-of .ensures)
+returns c =
+    let a = c .before .before .before .before .before .before .before .before .args in
+    lengths-are (a .m) (a .n) (a .k) (a .l) (a .t) (a .items .now) (a .positions .now) (a .quotient .now) (a .item .now) (a .openings .now) (c .before .before .size .ensures) (c .opening-size .ensures) (c .before .depth-of .ensures)
 
 pub lengths-fit-spec : {M : Type 1} → statement M
 lengths-fit-spec =
     tie.close
     (tie.spec
-    mul-size
-    add-size
-    mul-size-2
-    add-size-2
-    add-size-3
+    size-requires
     depth-of-requires
-    mul-opening
-    add-opening
+    opening-size-requires
     mul-result
     mul-result-2
     sub-result

@@ -1,12 +1,14 @@
 -- `verify::verdict_in` meets its contract, check by check.
-use mathlib.Core.Path.{sym, ap, ap₂, _∙_}
-use Prim.Native.Nat.{ℕ, suc, _*_}
+use mathlib.Core.Path.{_≡_, refl, sym, ap, ap₂, _∙_}
+use Prim.Native.Nat.{ℕ, suc, _*_, _/_}
 use native.Mathlib.Omega.{arith}
 use Rattle.tree.specs.Layout.{openingSize}
+use Rattle.code.specs.Points.{depth}
+use Rattle.theory.specs.Fp.{readItems, readShown, openingsLead, valuesCombine}
 use Rattle.fold.proofs.Mixing.{length-weights}
+use Rattle.checks.proofs.Calls.{fails, passes}
 use Rattle.verifier.proofs.Counting.{depth-few}
 use Rattle.verifier.proofs.Leading.{weights-are, openings-lead, values-combine}
-use Rattle.verifier.proofs.Answers.{passes, fails, refused-7, refused-8, refused-9, accepted}
 use borrow.Author.Needs.{needs}
 use Rattle.verifier.proofs.verify.verdict_in.Statement.{statement}
 use Rattle.verifier.proofs.verify.verdict_in.Tie as tie
@@ -20,87 +22,105 @@ slice-aggregate-lagrange c = search needs
 lagrange-requires : tie.Need-lagrange-requires
 lagrange-requires c κs = search needs
 
+front-requires : tie.Need-front-requires
+front-requires c κs = search needs
+
+size-requires : tie.Need-size-requires
+size-requires c κs = search needs
+
+depth-of-requires : tie.Need-depth-of-requires
+depth-of-requires c κs = search needs
+
+opening-size-requires : tie.Need-opening-size-requires
+opening-size-requires c κs = omega (arith, c .depth-of .ensures, depth-few (c .before .before .before .before .before .before .before .before .before .before .before .before .before .before .before .pre .0 .0))
+
 combines-requires : tie.Need-combines-requires
 combines-requires c κs =
-    let s = c .before .before .before .before .before .before .before .before .before .before .before .before .before in
+    let s = c .before .before .before .before .before .before .before .before .before .before .before .before .before .before .before .before .before in
     let a = s .args in
     let f = s .pre .0 .0 in
-    let g = s .pre .0 .1 in
-    ((f .m-most, f .n-most, f .l-least, f .l-most, s .pre .1 .3, weights-are (a .l) (a .challenge) (a .weights .now) (s .pre .1 .4) (c .before .before .before .lagrange .ensures)), (g .items-size, g .quotient-size, g .item-size, s .pre .1 .0, s .pre .1 .1))
+    let g = s .pre .0 .1 in (
+      (f .m-most, f .n-most, f .l-least, f .l-most, s .pre .1 .3, weights-are (a .l) (a .challenge) (a .weights .now) (s .pre .1 .4) (c .before .before .before .before .before .before .before .lagrange .ensures), omega (arith, c .before .before .before .size .ensures)),
+      (g .items-size, g .quotient-size, g .item-size, s .pre .1 .0, s .pre .1 .1),
+    )
 
 same-length : tie.Need-same-length
 same-length c = search needs
 
 returns : tie.Need-returns
-returns c =
-    let s = c .before .before .before .before .before .before .before .before .before .before .before .before .before .before .before in
-    let a = s .args in
-    refused-7 (a .m) (a .n) (a .k) (a .l) (a .t) (a .challenge) (a .items .now) (a .positions .now) (a .quotient .now) (a .item .now) (a .openings .now) (fails _ (c .before .combines .ensures (a .k) (a .t) (a .positions .now) (a .openings .now)) (c .if1 .taken))
-
-depth-of-requires : tie.Need-depth-of-requires
-depth-of-requires c κs = search needs
+returns c = let a = c .before .before .before .before .before .before .before .before .before .before .before .before .before .before .before .before .before .before .before .args in fails 7 _ (c .before .combines .ensures (a .k) (a .t) (a .positions .now) (a .openings .now)) (c .if1 .taken)
 
 openings-lead-requires : tie.Need-openings-lead-requires
 openings-lead-requires c κs =
-    let s = c .before .before .before .before .before .before .before .before .before .before .before .before .before .before .before .before in
+    let s = c .before .before .before .before .before .before .before .before .before .before .before .before .before .before .before .before .before .before .before in
     let a = s .args in
-    let f = s .pre .0 .0 in
-    let g = s .pre .0 .1 in (
-      f .m-most,
-      f .n-most,
-      f .l-most,
-      omega (arith, c .depth-of .ensures, depth-few f),
-      g .items-size,
+    let g = s .pre .0 .1 in
+    let size = c .before .before .before .before .before .size .ensures in
+    let opening = c .before .before .before .opening-size .ensures in (
+      omega (arith, c .before .before .before .before .before .before .front .ensures, size),
+      omega (arith, opening),
+      s .pre .0 .0 .l-most,
+      g .items-size ∙ ap (λ (n : ℕ). a .l * n) (sym size),
       g .positions-size,
-      g .item-size,
-      g .openings-size ∙ ap (λ (d : ℕ). a .t * suc (a .l) * openingSize d) (sym (c .depth-of .ensures)),
+      g .item-size ∙ sym size,
+      g .openings-size ∙ ap (λ (n : ℕ). a .t * suc (a .l) * n) (sym (opening ∙ ap openingSize (c .before .before .before .before .depth-of .ensures))),
     )
+
+-- Check 8.
+lead : (c : tie.After-openings-lead) → (let a = c .before .before .before .before .before .before .before .before .before .before .before .before .before .before .before .before .before .before .before .before .args in c .openings-lead .result
+    ≡ openingsLead (a .k) (readItems (a .m) (a .n) (a .l) (a .items .now)) (readShown (a .m) (a .n) (a .k) (a .l) (a .t) (a .challenge) (a .positions .now) (a .item .now) (a .openings .now)))
+lead c =
+    let s = c .before .before .before .before .before .before .before .before .before .before .before .before .before .before .before .before .before .before .before .before in
+    let a = s .args in
+    let g = s .pre .0 .1 in
+    openings-lead (a .m) (a .n) (a .k) (a .l) (a .t) (a .challenge) (a .items .now) (a .positions .now) (a .item .now) (a .openings .now) (g .positions-size) (g .openings-size) (s .pre .1 .2) (g .item-size)
+    (c .before .before .before .before .before .before .size .ensures) (c .before .before .before .before .before .before .before .front .ensures) (c .before .before .before .before .opening-size .ensures) (c .before .before .before .before .before .depth-of .ensures) (c .openings-lead .ensures)
 
 same-length-2 : tie.Need-same-length-2
 same-length-2 c = search needs
 
 returns-2 : tie.Need-returns-2
-returns-2 c =
-    let s = c .before .before .before .before .before .before .before .before .before .before .before .before .before .before .before .before .before .before in
-    let a = s .args in
-    refused-8 (a .m) (a .n) (a .k) (a .l) (a .t) (a .challenge) (a .items .now) (a .positions .now) (a .quotient .now) (a .item .now) (a .openings .now)
-    (passes _ (c .before .before .before .before .combines .ensures (a .k) (a .t) (a .positions .now) (a .openings .now)) (c .before .before .before .if1 .left))
-    (fails _ (openings-lead (a .m) (a .n) (a .k) (a .l) (a .t) (a .challenge) (a .items .now) (a .positions .now) (a .item .now) (a .openings .now) (s .pre .0 .1 .positions-size) (s .pre .0 .1 .openings-size) (s .pre .1 .2) (c .before .before .depth-of .ensures) (c .before .openings-lead .ensures)) (c .if2 .taken))
+returns-2 c = let a = c .before .before .before .before .before .before .before .before .before .before .before .before .before .before .before .before .before .before .before .before .before .args in passes 7 (c .before .before .before .combines .ensures (a .k) (a .t) (a .positions .now) (a .openings .now)) (c .before .before .if1 .left) (fails 8 _ (lead (c .before)) (c .if2 .taken))
+
+-- The numbers of an opening.
+layout : (c : tie.Else1) → 4 * (c .before .before .before .opening-size .result / 4) ≡ openingSize (depth (c .before .before .before .before .before .before .before .before .before .before .before .before .before .before .before .before .before .before .before .args .k))
+layout c = let e : c .before .before .before .opening-size .result ≡ openingSize (depth (c .before .before .before .before .before .before .before .before .before .before .before .before .before .before .before .before .before .before .before .args .k)) = c .before .before .before .opening-size .ensures ∙ ap openingSize (c .before .before .before .before .depth-of .ensures) in omega arith
 
 values-combine-requires : tie.Need-values-combine-requires
 values-combine-requires c κs =
-    let s = c .before .before .before .before .before .before .before .before .before .before .before .before .before .before .before .before .before .before .before in
+    let s = c .before .before .before .before .before .before .before .before .before .before .before .before .before .before .before .before .before .before .before .before .before .before in
     let a = s .args in
-    let f = s .pre .0 .0 in
-    let e = length-weights (a .l) (a .challenge) (weights-are (a .l) (a .challenge) (a .weights .now) (s .pre .1 .4) (c .before .before .before .before .before .before .before .before .before .lagrange .ensures)) in (
-      omega (arith, e, f .l-most),
-      omega (arith, c .before .before .before .depth-of .ensures, depth-few f),
-      s .pre .0 .1 .openings-size ∙ ap₂ (λ (l d : ℕ). a .t * suc l * openingSize d) (sym e) (sym (c .before .before .before .depth-of .ensures)),
+    let e = length-weights (a .l) (a .challenge) (weights-are (a .l) (a .challenge) (a .weights .now) (s .pre .1 .4) (c .before .before .before .before .before .before .before .before .before .before .before .before .lagrange .ensures)) in (
+      omega (arith, e, s .pre .0 .0 .l-most),
+      omega (arith, c .before .before .before .before .before .before .opening-size .ensures),
+      s .pre .0 .1 .openings-size ∙ ap₂ (λ (l o : ℕ). a .t * suc l * o) (sym e) (sym (layout (c .before .before .before))),
     )
+
+-- Check 9.
+combine : (c : tie.After-values-combine) → (let a = c .before .before .before .before .before .before .before .before .before .before .before .before .before .before .before .before .before .before .before .before .before .before .before .args in c .values-combine .result
+    ≡ valuesCombine (readItems (a .m) (a .n) (a .l) (a .items .now)) (readShown (a .m) (a .n) (a .k) (a .l) (a .t) (a .challenge) (a .positions .now) (a .item .now) (a .openings .now)))
+combine c =
+    let s = c .before .before .before .before .before .before .before .before .before .before .before .before .before .before .before .before .before .before .before .before .before .before .before in
+    let a = s .args in
+    let g = s .pre .0 .1 in
+    values-combine (a .m) (a .n) (a .k) (a .l) (a .t) (a .challenge) (a .items .now) (a .positions .now) (a .item .now) (a .openings .now) (g .positions-size) (g .openings-size) (s .pre .1 .2)
+    (weights-are (a .l) (a .challenge) (a .weights .now) (s .pre .1 .4) (c .before .before .before .before .before .before .before .before .before .before .before .before .before .lagrange .ensures)) (c .before .before .before .before .before .before .before .opening-size .result / 4) (layout (c .before .before .before .before)) (c .values-combine .ensures)
 
 same-length-3 : tie.Need-same-length-3
 same-length-3 c = search needs
 
 returns-3 : tie.Need-returns-3
 returns-3 c =
-    let s = c .before .before .before .before .before .before .before .before .before .before .before .before .before .before .before .before .before .before .before .before .before in
-    let a = s .args in
-    refused-9 (a .m) (a .n) (a .k) (a .l) (a .t) (a .challenge) (a .items .now) (a .positions .now) (a .quotient .now) (a .item .now) (a .openings .now)
-    (passes _ (c .before .before .before .before .before .before .before .combines .ensures (a .k) (a .t) (a .positions .now) (a .openings .now)) (c .before .before .before .before .before .before .if1 .left))
-    (passes _ (openings-lead (a .m) (a .n) (a .k) (a .l) (a .t) (a .challenge) (a .items .now) (a .positions .now) (a .item .now) (a .openings .now) (s .pre .0 .1 .positions-size) (s .pre .0 .1 .openings-size) (s .pre .1 .2) (c .before .before .before .before .before .depth-of .ensures) (c .before .before .before .before .openings-lead .ensures)) (c .before .before .before .if2 .left))
-    (fails _ (values-combine (a .m) (a .n) (a .k) (a .l) (a .t) (a .challenge) (a .items .now) (a .positions .now) (a .item .now) (a .openings .now) (s .pre .0 .1 .positions-size) (s .pre .0 .1 .openings-size) (s .pre .1 .2) (weights-are (a .l) (a .challenge) (a .weights .now) (s .pre .1 .4) (c .before .before .before .before .before .before .before .before .before .before .before .lagrange .ensures)) (c .before .before .before .before .before .depth-of .ensures) (c .before .values-combine .ensures)) (c .if3 .taken))
+    let a = c .before .before .before .before .before .before .before .before .before .before .before .before .before .before .before .before .before .before .before .before .before .before .before .before .args in
+    passes 7 (c .before .before .before .before .before .before .combines .ensures (a .k) (a .t) (a .positions .now) (a .openings .now)) (c .before .before .before .before .before .if1 .left) (passes 8 (lead (c .before .before .before .before)) (c .before .before .before .if2 .left) (fails 9 _ (combine (c .before)) (c .if3 .taken)))
 
 same-length-4 : tie.Need-same-length-4
 same-length-4 c = search needs
 
 returns-4 : tie.Need-returns-4
 returns-4 c =
-    let s = c .before .before .before .before .before .before .before .before .before .before .before .before .before .before .before .before .before .before .before .before .before in
-    let a = s .args in
-    accepted (a .m) (a .n) (a .k) (a .l) (a .t) (a .challenge) (a .items .now) (a .positions .now) (a .quotient .now) (a .item .now) (a .openings .now)
-    (passes _ (c .before .before .before .before .before .before .before .combines .ensures (a .k) (a .t) (a .positions .now) (a .openings .now)) (c .before .before .before .before .before .before .if1 .left))
-    (passes _ (openings-lead (a .m) (a .n) (a .k) (a .l) (a .t) (a .challenge) (a .items .now) (a .positions .now) (a .item .now) (a .openings .now) (s .pre .0 .1 .positions-size) (s .pre .0 .1 .openings-size) (s .pre .1 .2) (c .before .before .before .before .before .depth-of .ensures) (c .before .before .before .before .openings-lead .ensures)) (c .before .before .before .if2 .left))
-    (passes _ (values-combine (a .m) (a .n) (a .k) (a .l) (a .t) (a .challenge) (a .items .now) (a .positions .now) (a .item .now) (a .openings .now) (s .pre .0 .1 .positions-size) (s .pre .0 .1 .openings-size) (s .pre .1 .2) (weights-are (a .l) (a .challenge) (a .weights .now) (s .pre .1 .4) (c .before .before .before .before .before .before .before .before .before .before .before .lagrange .ensures)) (c .before .before .before .before .before .depth-of .ensures) (c .before .values-combine .ensures)) (c .if3 .left))
+    let a = c .before .before .before .before .before .before .before .before .before .before .before .before .before .before .before .before .before .before .before .before .before .before .before .before .args in
+    passes 7 (c .before .before .before .before .before .before .combines .ensures (a .k) (a .t) (a .positions .now) (a .openings .now)) (c .before .before .before .before .before .if1 .left) (passes 8 (lead (c .before .before .before .before)) (c .before .before .before .if2 .left) (passes 9 (combine (c .before)) (c .if3 .left) refl))
 
 pub verdict-in-spec : {M : Type 1} → statement M
 verdict-in-spec =
@@ -109,10 +129,13 @@ verdict-in-spec =
     inverses-requires
     slice-aggregate-lagrange
     lagrange-requires
+    front-requires
+    size-requires
+    depth-of-requires
+    opening-size-requires
     combines-requires
     same-length
     returns
-    depth-of-requires
     openings-lead-requires
     same-length-2
     returns-2

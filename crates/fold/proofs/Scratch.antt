@@ -1,4 +1,4 @@
--- The combined r, x and w in the lists that are lent for them: r for the first, the front and the rest of z for the others.
+-- The combined r, x and w in scratch lists: r for the first, the front and the rest of z for the others.
 use mathlib.Core.Path.{_≡_, sym, ap, ap₂, subst, _∙_}
 use mathlib.Core.List.{List, _++_, map, append-nil}
 use Prim.Native.Nat.{ℕ, _+_, _*_, _-_, _≤_, _<_}
@@ -10,10 +10,10 @@ use Rattle.field.specs.Numbers.{Below}
 use Rattle.r1cs.specs.Rows.{EntriesInside}
 use Rattle.theory.specs.R1cs.{weightedSum}
 use Rattle.theory.specs.Combination.{combinedValue}
-use Rattle.theory.specs.Buffers.{circuit, readItems, readWitness}
+use Rattle.theory.specs.Fp.{circuit, itemSize, readItems, readWitness}
 use Rattle.fold.specs.Weights.{lagrangeAt, weightedFrom}
 use Rattle.fold.specs.Fits.{Fits}
-use Rattle.fold.proofs.Reading.{part-inside, item-inside}
+use Rattle.fold.proofs.Reading.{part-inside, numbers-first, item-inside}
 use Rattle.fold.proofs.Mixing.{length-weightedFrom, weightedFrom-below, combined-is}
 
 -- z with ys in the place of its first n; what lies behind them; and that with ws in its place.
@@ -38,40 +38,40 @@ module _ (n k : ℕ) (ys z : List ℕ) (hy : length ys ≡ n) (hz : length z ≡
       (ap₂ (λ (s : ℕ) (l : List ℕ). drop (s - n) l) whole rest ∙ drop-of-length-le (drop n z) {i = n + k - n} (omega (arith, length-drop n z)))
       ∙ ap (λ (t : List ℕ). ys ++ t) (append-nil ws)
 
-module _ {m n k l : ℕ} {a b c items wits : List ℕ} (f : Fits m n k l a b c items wits) (r z : List ℕ) (hr : length r ≡ m) (hz : length z ≡ n + k) where
+module _ {m n k l : ℕ} {a b c items wits : List ℕ} (f : Fits m n k l a b c items wits) (stride : ℕ) (layout : 4 * stride ≡ itemSize m n) (r z : List ℕ) (hr : length r ≡ m) (hz : length z ≡ n + k) where
   -- The numbers that are combined lie in the buffers.
-  pub r-inside : (i : ℕ) → i < l → 4 * (i * (9 + m + n) + 1 + length r) ≤ length items
-  r-inside i h = omega (arith, item-inside m n l items (f .items-size) i h)
+  pub r-inside : (i : ℕ) → i < l → 4 * (i * stride + 1 + length r) ≤ length items
+  r-inside i h = omega (arith, numbers-first m n l stride items layout (f .items-size), item-inside m n l stride items layout (f .items-size) i h)
 
   front : length (take n z) ≡ n
   front = length-take-le n z (omega arith)
 
-  pub x-inside : (i : ℕ) → i < l → 4 * (i * (9 + m + n) + (1 + m) + length (take n z)) ≤ length items
-  x-inside i h = omega (arith, item-inside m n l items (f .items-size) i h, front)
+  pub x-inside : (i : ℕ) → i < l → 4 * (i * stride + (1 + m) + length (take n z)) ≤ length items
+  x-inside i h = omega (arith, numbers-first m n l stride items layout (f .items-size), item-inside m n l stride items layout (f .items-size) i h, front)
 
-  module _ (weights : List ℕ) {ys : List ℕ} (ey : ys ≡ weightedFrom weights items (9 + m + n) (1 + m) (length (take n z))) where
+  module _ (weights : List ℕ) {ys : List ℕ} (ey : ys ≡ weightedFrom weights items stride (1 + m) (length (take n z))) where
     length-x : length ys ≡ n
-    length-x = ap length ey ∙ length-weightedFrom weights items (9 + m + n) (1 + m) (length (take n z)) ∙ front
+    length-x = ap length ey ∙ length-weightedFrom weights items stride (1 + m) (length (take n z)) ∙ front
 
     pub w-inside : (i : ℕ) → i < l → 4 * (i * k + 0 + length (behind n ys z)) ≤ length wits
     w-inside i h = omega (arith, part-inside wits l k (f .wits-size) i h, length-behind n k ys z length-x hz)
 
-    module _ {rs ws : List ℕ} (er : rs ≡ weightedFrom weights items (9 + m + n) 1 (length r)) (ew : ws ≡ weightedFrom weights wits k 0 (length (behind n ys z))) where
-      r-is : rs ≡ weightedFrom weights items (9 + m + n) 1 m
-      r-is = er ∙ ap (weightedFrom weights items (9 + m + n) 1) hr
+    module _ {rs ws : List ℕ} (er : rs ≡ weightedFrom weights items stride 1 (length r)) (ew : ws ≡ weightedFrom weights wits k 0 (length (behind n ys z))) where
+      r-is : rs ≡ weightedFrom weights items stride 1 m
+      r-is = er ∙ ap (weightedFrom weights items stride 1) hr
 
-      z-is : joined n ys ws z ≡ weightedFrom weights items (9 + m + n) (1 + m) n ++ weightedFrom weights wits k 0 k
+      z-is : joined n ys ws z ≡ weightedFrom weights items stride (1 + m) n ++ weightedFrom weights wits k 0 k
       z-is = joined-is n k ys z length-x hz ws
-          ∙ ap₂ (λ (s t : List ℕ). s ++ t) (ey ∙ ap (weightedFrom weights items (9 + m + n) (1 + m)) front) (ew ∙ ap (weightedFrom weights wits k 0) (length-behind n k ys z length-x hz))
+          ∙ ap₂ (λ (s t : List ℕ). s ++ t) (ey ∙ ap (weightedFrom weights items stride (1 + m)) front) (ew ∙ ap (weightedFrom weights wits k 0) (length-behind n k ys z length-x hz))
 
       length-z : length (joined n ys ws z) ≡ n + k
-      length-z = ap length z-is ∙ length-append (weightedFrom weights items (9 + m + n) (1 + m) n) (weightedFrom weights wits k 0 k)
-          ∙ ap₂ _+_ (length-weightedFrom weights items (9 + m + n) (1 + m) n) (length-weightedFrom weights wits k 0 k)
+      length-z = ap length z-is ∙ length-append (weightedFrom weights items stride (1 + m) n) (weightedFrom weights wits k 0 k)
+          ∙ ap₂ _+_ (length-weightedFrom weights items stride (1 + m) n) (length-weightedFrom weights wits k 0 k)
 
       pub r-fits : (length rs ≤ 6) × Below rs
       r-fits = (
-        omega (arith, ap length r-is, length-weightedFrom weights items (9 + m + n) 1 m, f .m-most),
-        subst Below (sym r-is) (weightedFrom-below weights items (9 + m + n) 1 m),
+        omega (arith, ap length r-is, length-weightedFrom weights items stride 1 m, f .m-most),
+        subst Below (sym r-is) (weightedFrom-below weights items stride 1 m),
       )
 
       pub entries-inside : EntriesInside 64 (length (joined n ys ws z)) a × EntriesInside 64 (length (joined n ys ws z)) b × EntriesInside 64 (length (joined n ys ws z)) c
@@ -81,4 +81,4 @@ module _ {m n k l : ℕ} {a b c items wits : List ℕ} (f : Fits m n k l a b c i
 
       pub value-is : (at : ℕ) {result : ℕ} → weights ≡ lagrangeAt l at → result ≡ val (weightedSum R (circuit a b c) (map ofℕ rs) (map ofℕ (joined n ys ws z)))
           → result ≡ val (combinedValue babyBear (circuit a b c) m n k (readItems m n l items) (readWitness k wits) (ofℕ at))
-      value-is at w e = e ∙ combined-is l at w f r-is z-is
+      value-is at w e = e ∙ combined-is l at w f stride layout r-is z-is

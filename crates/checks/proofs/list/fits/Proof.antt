@@ -1,8 +1,8 @@
 -- `list::fits` meets its contract: sizes and counts first, then the lengths that they give.
-use Rattle.prover.proofs.Listed.{first-passes, list-fails, list-passes, sizes-small}
+use Rattle.checks.proofs.Listed.{first-passes, list-fails, list-passes, sizes-small}
 use borrow.Author.Needs.{needs}
-use Rattle.prover.proofs.list.fits.Statement.{statement}
-use Rattle.prover.proofs.list.fits.Tie as tie
+use Rattle.checks.proofs.list.fits.Statement.{statement}
+use Rattle.checks.proofs.list.fits.Tie as tie
 
 sizes-requires : tie.Need-sizes-requires
 sizes-requires c κs = search needs

@@ -1,0 +1,26 @@
+-- `list::verdict` meets its contract, check by check.
+use mathlib.Core.Path.{refl}
+use Rattle.checks.proofs.Calls.{fails, passes}
+use Rattle.checks.proofs.WitnessLaws.{count-few}
+use borrow.Author.Needs.{needs}
+use Rattle.checks.proofs.list.verdict.Statement.{statement}
+use Rattle.checks.proofs.list.verdict.Tie as tie
+
+below-requires : tie.Need-below-requires
+below-requires c κs = search needs
+
+returns : tie.Need-returns
+returns c = fails 3 _ (c .before .below .ensures) (c .if1 .taken)
+
+circuit-in-order-requires : tie.Need-circuit-in-order-requires
+circuit-in-order-requires c κs = let s = c .before .before .before .before .before .before .before in (s .pre .0, s .pre .1, count-few (s .args .k) (s .pre .2))
+
+returns-2 : tie.Need-returns-2
+returns-2 c = passes 3 (c .before .before .before .below .ensures) (c .before .before .if1 .left) (fails 4 _ (c .before .circuit-in-order .ensures) (c .if2 .taken))
+
+returns-3 : tie.Need-returns-3
+returns-3 c = passes 3 (c .before .before .before .below .ensures) (c .before .before .if1 .left) (passes 4 (c .before .circuit-in-order .ensures) (c .if2 .left) refl)
+
+pub verdict-spec : {M : Type 1} → statement M
+verdict-spec =
+    tie.close (tie.spec below-requires returns circuit-in-order-requires returns-2 returns-3)
