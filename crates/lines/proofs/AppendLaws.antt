@@ -11,7 +11,7 @@ use Rattle.numbers.proofs.Bytes.{length-bytes}
 use Rattle.lines.specs.Text.{decimal, hexBytes}
 use Rattle.lines.specs.Lines.{front, last}
 use Rattle.lines.specs.Cursor.{isItem, numberBytes, itemBytes, Appended}
-use Rattle.lines.proofs.LineRoom.{item-parts, root-length}
+use Rattle.lines.proofs.LineLengths.{item-parts, root-length}
 
 -- ---- how long numbers and roots are
 pub length-numberBytes : (fs : List (List ℕ)) → length (numberBytes fs) ≡ 4 * length fs
@@ -40,8 +40,8 @@ placed at xs s = take at s ++ (xs ++ drop (at + length xs) s)
 pub placed-none : (at : ℕ) (s : List ℕ) → placed at [] s ≡ s
 placed-none at s = ap (λ (n : ℕ). take at s ++ drop n s) (add-zero at) ∙ take-append-drop at s
 
--- The front and xs, where there is room.
-module _ (at : ℕ) (xs s : List ℕ) (room : at + length xs ≤ length s) where
+-- The front and xs, where xs fits.
+module _ (at : ℕ) (xs s : List ℕ) (fits : at + length xs ≤ length s) where
   pub placed-length : length (placed at xs s) ≡ length s
   placed-length = simp (length-append, length-take, length-drop) (omega arith)
 
@@ -69,11 +69,11 @@ module _ (at : ℕ) (xs s : List ℕ) (room : at + length xs ≤ length s) where
 pub appended-none : (count : ℕ) (s : List ℕ) → Appended count [] s s
 appended-none count s = (refl, λ h. sym (placed-none (4 * count) s))
 
--- No room: the buffer stays as it is.
+-- Where xs does not fit, the buffer stays as it is.
 pub appended-full : (count : ℕ) (xs s : List ℕ) → length s < 4 * count + length xs → Appended count xs s s
 appended-full count xs s h = (refl, λ l. absurd (omega arith))
 
--- Room: xs stands in its place.
+-- Where it fits, it stands in its place.
 pub appended-put : (count : ℕ) (xs held now : List ℕ) → 4 * count + length xs ≤ length held
     → now ≡ take (4 * count) held ++ xs ++ drop (4 * count + length xs) held → Appended count xs held now
 appended-put count xs held now h e =
@@ -87,17 +87,17 @@ appended-more count n xs ys held now later size a b = (b .0 ∙ a .0, both)
   where
     both : 4 * count + length (xs ++ ys) ≤ length held → later ≡ placed (4 * count) (xs ++ ys) held
     both h =
-        let room : 4 * count + length xs ≤ length held = omega (arith, length-append xs ys) in
+        let fits : 4 * count + length xs ≤ length held = omega (arith, length-append xs ys) in
         let place : 4 * (count + n) ≡ 4 * count + length xs = omega arith in
         let written : later ≡ placed (4 * count + length xs) ys now = rw place at (b .1 (omega (arith, length-append xs ys, a .0))) in
-        written ∙ ap (placed (4 * count + length xs) ys) (a .1 room) ∙ placed-more (4 * count) xs held room ys
+        written ∙ ap (placed (4 * count + length xs) ys) (a .1 fits) ∙ placed-more (4 * count) xs held fits ys
 
--- A buffer that starts with ys, if it has room for them, then starts with ys and xs, if it has room for those.
+-- A buffer that starts with ys, if they fit, then starts with ys and xs, if those fit.
 pub appended-front : (count : ℕ) (ys xs held now : List ℕ) → length ys ≡ 4 * count
     → (length ys ≤ length held → take (length ys) held ≡ ys)
     → Appended count xs held now → length (ys ++ xs) ≤ length now → take (length (ys ++ xs)) now ≡ ys ++ xs
 appended-front count ys xs held now size start a h =
-    let room : 4 * count + length xs ≤ length held = omega (arith, length-append ys xs, a .0) in
+    let fits : 4 * count + length xs ≤ length held = omega (arith, length-append ys xs, a .0) in
     let e : length (ys ++ xs) ≡ 4 * count + length xs = omega (arith, length-append ys xs) in
     let begins : take (4 * count) held ≡ ys = rw size at (start (omega arith)) in
-    rw (e, a .1 room) (placed-take (4 * count) xs held room ∙ rw begins)
+    rw (e, a .1 fits) (placed-take (4 * count) xs held fits ∙ rw begins)

@@ -10,8 +10,8 @@ use borrow.Author.Tests.{leb-true, lt-leb, eqb-true, eqb-false, ne-eqb}
 use lib.Dec.{eqb, leb}
 use lib.ListN.{length, getD, take, set}
 use lib.Seq.{take-suc-set, take-all}
-use Rattle.theory.proofs.CheckLaws.{and-left, and-right}
-use Rattle.lines.specs.Text.{every, isDigit, isHexDigit, hexValue, isRoot, hexBytes}
+use Rattle.numbers.proofs.Tests.{and-left, and-right}
+use Rattle.lines.specs.Text.{allPass, isDigit, isHexDigit, hexValue, isRoot, hexBytes}
 use Rattle.lines.specs.Cursor.{fieldAt, zeros, rootAt}
 use Rattle.lines.proofs.NumberLaws.{digit-low, digit-high}
 use Rattle.lines.proofs.FieldLaws.{endsField, field-more, field-stops, field-inside}
@@ -57,18 +57,18 @@ module _ (d : ℕ) (h : isHexDigit d ≡ true) where
 -- ---- the field from j on, after n digits
 
 abbrev pub restIsRoot : List ℕ → ℕ → ℕ → Bool
-restIsRoot s j n = eqb (n + length (fieldAt s j)) 64 && every isHexDigit (fieldAt s j)
+restIsRoot s j n = eqb (n + length (fieldAt s j)) 64 && allPass isHexDigit (fieldAt s j)
 
 module _ (s : List ℕ) (j n : ℕ) where
   module _ (h : j < length s) where
     rest-more : isHexDigit (getD s j 0) ≡ true → restIsRoot s j n ≡ restIsRoot s (j + 1) (n + 1)
-    unfolding every
+    unfolding allPass
     rest-more e =
         let count : n + length (getD s j 0 ∷ fieldAt s (j + 1)) ≡ n + 1 + length (fieldAt s (j + 1)) = omega arith in
         rw (field-more s j h (hex-inside (getD s j 0) e), e, count)
 
     rest-stops : (t : Bool) → endsField (getD s j 0) ≡ t → n < 64 → isHexDigit (getD s j 0) ≡ false → restIsRoot s j n ≡ false
-    unfolding every
+    unfolding allPass
     rest-stops true o l e = rw (field-stops s j h o, ne-eqb (n + length {A = ℕ} []) 64 (λ z. omega arith))
     rest-stops false o l e = rw (field-more s j h o, e) (simp and-false)
 
@@ -78,7 +78,7 @@ module _ (s : List ℕ) (j n : ℕ) where
       rw (ne-eqb (n + length (fieldAt s j)) 64 (λ z. some (omega arith)))
 
   rest-none : n ≡ 64 → fieldAt s j ≡ [] → restIsRoot s j n ≡ true
-  unfolding every
+  unfolding allPass
   rest-none e o = rw (o, e)
 
 -- Two bytes from j on.
@@ -139,7 +139,7 @@ module _ (s : List ℕ) (at : ℕ) where
   pub read-none : (bytes : List ℕ) → Read s at bytes 0
   read-none bytes = (rw (add-zero, zero-add), rw add-zero)
 
-  module _ (bytes : List ℕ) (i : ℕ) (room : at + 64 ≤ length s) (more : i < 32) (r : Read s at bytes i) where
+  module _ (bytes : List ℕ) (i : ℕ) (within : at + 64 ≤ length s) (more : i < 32) (r : Read s at bytes i) where
     pub read-bad : pairPasses s (at + 2 * i) ≡ false → isRoot (fieldAt s at) ≡ false
     read-bad e = r .0 ∙ pair-bad s (at + 2 * i) (2 * i) (omega arith) (omega arith) e
 

@@ -3,6 +3,7 @@ pub mod FieldEnds
 mod FieldLaws
 mod FieldReads
 mod HexLaws
-pub mod LineRoom
+pub mod LineLengths
 mod NumberLaws
+pub mod ReadLaws
 mod RowLaws

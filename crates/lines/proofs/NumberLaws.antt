@@ -9,10 +9,10 @@ use native.Mathlib.Omega.{arith}
 use borrow.Author.Tests.{le-leb, lt-leb, leb-true, eqb-true, eqb-false, ne-eqb}
 use lib.Dec.{eqb, leb}
 use lib.ListN.{length, getD}
-use Rattle.theory.proofs.CheckLaws.{and-left, and-right}
+use Rattle.numbers.proofs.Tests.{and-left, and-right}
 use Rattle.lines.specs.declared.number.Number.{Number}
 use Rattle.lines.specs.declared.number.Number.the-variants as number
-use Rattle.lines.specs.Text.{every, isDigit, decimal, decimalFrom}
+use Rattle.lines.specs.Text.{allPass, isDigit, decimal, decimalFrom}
 use Rattle.lines.specs.Cursor.{fieldAt, fieldEnd, numberAt}
 use Rattle.lines.proofs.FieldLaws.{endsField, field-more, end-more, none-here, field-inside, field-first}
 
@@ -38,7 +38,7 @@ length-none (x ∷ xs) e = absurd (omega arith)
 
 -- The digits of the field at i, after those of v.
 abbrev written : ℕ → List ℕ → ℕ → Number
-written v f end = cond (every isDigit f && leb (decimalFrom v f) 4294967295) (number.Value (decimalFrom v f) end) number.Bad
+written v f end = cond (allPass isDigit f && leb (decimalFrom v f) 4294967295) (number.Value (decimalFrom v f) end) number.Bad
 
 abbrev pub digitsAt : List ℕ → ℕ → ℕ → Number
 digitsAt s v i = written v (fieldAt s i) (fieldEnd s i)
@@ -46,18 +46,18 @@ digitsAt s v i = written v (fieldAt s i) (fieldEnd s i)
 module _ (s : List ℕ) (v i : ℕ) where
   module _ (h : i < length s) (inside : endsField (getD s i 0) ≡ false) where
     digits-more : isDigit (getD s i 0) ≡ true → digitsAt s v i ≡ digitsAt s (10 * v + (getD s i 0 - 48)) (i + 1)
-    unfolding every decimalFrom
+    unfolding allPass decimalFrom
     digits-more e = ap₂ (written v) (field-more s i h inside) (end-more s i h inside) ∙ rw e
 
     digits-bad : isDigit (getD s i 0) ≡ false → digitsAt s v i ≡ number.Bad
-    unfolding every
+    unfolding allPass
     digits-bad e = rw (field-more s i h inside, e)
 
   digits-big : 4294967295 < v → digitsAt s v i ≡ number.Bad
   digits-big h = simp (lt-leb (decimalFrom v (fieldAt s i)) 4294967295 (le-trans h (decimal-grows v (fieldAt s i))), and-false)
 
   digits-over : v ≤ 4294967295 → fieldAt s i ≡ [] → digitsAt s v i ≡ number.Value v i
-  unfolding every decimalFrom
+  unfolding allPass decimalFrom
   digits-over h e = rw (e, le-leb v 4294967295 h, add-zero)
 
 -- A field is a number if its digits write one and it has the right form: the count of the digits and the first of them.
@@ -77,7 +77,7 @@ unfolding numberAt
 number-form s at =
     let f = fieldAt s at in
     let right = form (length f) (getD f 0 0) in
-    rw (and-assoc right (every isDigit f) (leb (decimal f) 4294967295)) (cond-and right (every isDigit f && leb (decimal f) 4294967295) (number.Value (decimal f) (fieldEnd s at)) number.Bad)
+    rw (and-assoc right (allPass isDigit f) (leb (decimal f) 4294967295)) (cond-and right (allPass isDigit f && leb (decimal f) 4294967295) (number.Value (decimal f) (fieldEnd s at)) number.Bad)
 
 -- No digits, or too large a number.
 number-bad : (s : List ℕ) (at : ℕ) → digitsAt s 0 at ≡ number.Bad → number.Bad ≡ numberAt s at

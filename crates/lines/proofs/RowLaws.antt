@@ -11,11 +11,11 @@ use lib.ListN.{length, getD}
 use Rattle.numbers.specs.Numbers.{bytes4, bytes}
 use Rattle.lines.specs.declared.row.Row.{Row}
 use Rattle.lines.specs.declared.row.Row.the-variants.{Read, Bad}
-use Rattle.lines.specs.Text.{every, isNumber, isRoot, hexBytes}
+use Rattle.lines.specs.Text.{allPass, isNumber, isRoot, hexBytes}
 use Rattle.lines.specs.Lines.{front, last}
-use Rattle.lines.specs.Cursor.{fieldAt, fieldEnd, fieldsAt, nextLine, numbersAt, isTail, tailAt, isItem, itemAt, numberBytes, itemBytes, Appended}
+use Rattle.lines.specs.Cursor.{fieldAt, fieldEnd, fieldsAt, nextLine, numbersAt, isTail, tailAt, isItem, itemRowAt, numberBytes, itemBytes, Appended}
 use Rattle.lines.proofs.FieldEnds.{first-field, end-within, end-before, is-tab, is-newline, tab-fields, tab-next, last-fields, end-fields, end-next, newline-fields, newline-next}
-use Rattle.lines.proofs.LineRoom.{number-length, root-length}
+use Rattle.lines.proofs.LineLengths.{number-length, root-length}
 use Rattle.lines.proofs.AppendLaws.{appended-more}
 use Rattle.lines.proofs.FieldReads.{IsNumber}
 
@@ -25,16 +25,16 @@ use Rattle.lines.proofs.FieldReads.{IsNumber}
 abbrev pub NumbersLeft : List ℕ → ℕ → ℕ → List ℕ → ℕ → ℕ → List ℕ → Type 0
 NumbersLeft s at count held place n buffer =
     (numbersAt s at count ≡ numbersAt s place n)
-    × (every isNumber (fieldsAt s at) ≡ every isNumber (fieldsAt s place))
+    × (allPass isNumber (fieldsAt s at) ≡ allPass isNumber (fieldsAt s place))
     × ((later : List ℕ) → Appended n (numberBytes (fieldsAt s place)) buffer later → Appended count (numberBytes (fieldsAt s at)) held later)
 
 module _ (s : List ℕ) (at count : ℕ) (held : List ℕ) (place n : ℕ) (buffer : List ℕ) (left : NumbersLeft s at count held place n buffer) where
   -- What the line promises of a result and of the buffer then.
   abbrev NumbersRead : Row → List ℕ → Type 0
-  NumbersRead r now = (r ≡ numbersAt s at count) × (every isNumber (fieldsAt s at) ≡ true → Appended count (numberBytes (fieldsAt s at)) held now)
+  NumbersRead r now = (r ≡ numbersAt s at count) × (allPass isNumber (fieldsAt s at) ≡ true → Appended count (numberBytes (fieldsAt s at)) held now)
 
-  no-number : isNumber (fieldAt s place) ≡ false → every isNumber (fieldsAt s place) ≡ false
-  unfolding every
+  no-number : isNumber (fieldAt s place) ≡ false → allPass isNumber (fieldsAt s place) ≡ false
+  unfolding allPass
   no-number h = rw (first-field s place .1, h)
 
   -- a field that is no number
@@ -48,7 +48,7 @@ module _ (s : List ℕ) (at count : ℕ) (held : List ℕ) (place n : ℕ) (buff
   module _ (x end : ℕ) (inside : place ≤ length s) (read : IsNumber s place x end) (now : List ℕ) (put : Appended n (bytes4 x) buffer now) where
     -- the last number of the line
     numbers-last : (next : ℕ) → fieldsAt s place ≡ fieldAt s place ∷ [] → nextLine s place ≡ next → NumbersRead (Read (n + 1) next) now
-    unfolding numbersAt every bytes
+    unfolding numbersAt allPass bytes
     numbers-last next e l = (
       sym (left .0 ∙ rw (e, read .0, l)),
       λ _. left .2 now (rw (e, ← read .1) put),
@@ -65,7 +65,7 @@ module _ (s : List ℕ) (at count : ℕ) (held : List ℕ) (place n : ℕ) (buff
 
     -- another follows
     pub numbers-more : (end ≡ length s → ⊥) → (getD s end 0 ≡ 10 → ⊥) → NumbersLeft s at count held (end + 1) (n + 1) now
-    unfolding numbersAt every bytes
+    unfolding numbersAt allPass bytes
     numbers-more not-end not-newline =
         let b = is-tab s place end inside (read .2) not-end not-newline in
         let e = tab-fields s place end inside (read .2) b in
@@ -117,7 +117,7 @@ module _ (s : List ℕ) (at count : ℕ) (held : List ℕ) (place n : ℕ) (buff
     -- another number
     pub tail-more : (x end : ℕ) → IsNumber s place x end → getD s end 0 ≡ 9 → (now : List ℕ) → Appended n (bytes4 x) buffer now
         → TailLeft s at count held (end + 1) (n + 1) now
-    unfolding tailAt every bytes
+    unfolding tailAt allPass bytes
     tail-more x end read b now put =
         let e = tab-fields s place end inside (read .2) b in
         let f = front-more s (end + 1) (fieldAt s place) in
@@ -130,12 +130,12 @@ module _ (s : List ℕ) (at count : ℕ) (held : List ℕ) (place n : ℕ) (buff
 
     -- a field with a tab behind it that is no number
     tail-no-number : getD s (fieldEnd s place) 0 ≡ 9 → isNumber (fieldAt s place) ≡ false → isTail (fieldsAt s place) ≡ false
-    unfolding every
+    unfolding allPass
     tail-no-number b h = rw (tab-fields s place (fieldEnd s place) inside refl b, front-more s (fieldEnd s place + 1) (fieldAt s place), h)
 
     -- a field with none behind it that is no root
     tail-no-root : (getD s (fieldEnd s place) 0 ≡ 9 → ⊥) → isRoot (fieldAt s place) ≡ false → isTail (fieldsAt s place) ≡ false
-    unfolding every front last
+    unfolding allPass front last
     tail-no-root b h = rw (last-fields s place (fieldEnd s place) inside refl b) h
 
     -- no number with a tab behind it, and no root
@@ -156,7 +156,7 @@ module _ (s : List ℕ) (at count : ℕ) (held : List ℕ) (place n : ℕ) (buff
 
       module _ (digest : List ℕ) (is : digest ≡ hexBytes (fieldAt s place)) (put : Appended n digest buffer now) where
         tail-last : (next : ℕ) → fieldsAt s place ≡ fieldAt s place ∷ [] → nextLine s place ≡ next → TailRead (Read (n + 8) next) now
-        unfolding tailAt every front last bytes
+        unfolding tailAt allPass front last bytes
         tail-last next e l =
             let count₀ : n + 0 + 8 ≡ n + 8 = omega arith in (
               sym (left .0 ∙ rw (e, root, count₀, l)),
@@ -176,30 +176,30 @@ module _ (s : List ℕ) (at count : ℕ) (held : List ℕ) (place n : ℕ) (buff
 -- ---- a number, then numbers and a root
 module _ (s : List ℕ) (at count : ℕ) (held : List ℕ) (inside : at ≤ length s) where
   abbrev ItemRead : Row → List ℕ → Type 0
-  ItemRead r now = (r ≡ itemAt s at count) × (isItem (fieldsAt s at) ≡ true → Appended count (itemBytes (fieldsAt s at)) held now)
+  ItemRead r now = (r ≡ itemRowAt s at count) × (isItem (fieldsAt s at) ≡ true → Appended count (itemBytes (fieldsAt s at)) held now)
 
   item-when : Dec (getD s (fieldEnd s at) 0 ≡ 9) → (getD s (fieldEnd s at) 0 ≡ 9 → isNumber (fieldAt s at) ≡ false) → isItem (fieldsAt s at) ≡ false
-  unfolding every front last
+  unfolding allPass front last
   item-when (yes b) number = rw (tab-fields s at (fieldEnd s at) inside refl b, front-more s (fieldEnd s at + 1) (fieldAt s at), number b)
   item-when (no b) number = rw (last-fields s at (fieldEnd s at) inside refl b)
 
   -- no number with a tab behind it
   pub item-bad : (getD s (fieldEnd s at) 0 ≡ 9 → isNumber (fieldAt s at) ≡ false) → ItemRead Bad held
-  unfolding itemAt
+  unfolding itemRowAt
   item-bad number =
       let h = item-when (ℕ-discrete (getD s (fieldEnd s at) 0) 9) number in
       (sym (rw h), λ e. absurd (false≢true (sym h ∙ e)))
 
   module _ (x end : ℕ) (read : IsNumber s at x end) (b : getD s end 0 ≡ 9) where
     item-is : isItem (fieldsAt s at) ≡ isTail (fieldsAt s (end + 1))
-    unfolding every
+    unfolding allPass
     item-is =
         let some : leb 1 (suc (length (front (fieldsAt s (end + 1))))) ≡ true = le-leb 1 (suc (length (front (fieldsAt s (end + 1))))) (omega arith) in
         rw (tab-fields s at end inside (read .2) b, front-more s (end + 1) (fieldAt s at), last-more s (end + 1) (fieldAt s at), read .0, some, and-true)
 
     pub item-tail : (now later : List ℕ) (r : Row) → Appended count (bytes4 x) held now → r ≡ tailAt s (end + 1) (count + 1)
         → (isTail (fieldsAt s (end + 1)) ≡ true → Appended (count + 1) (itemBytes (fieldsAt s (end + 1))) now later) → ItemRead r later
-    unfolding itemAt tailAt bytes
+    unfolding itemRowAt tailAt bytes
     item-tail now later r put e a =
         let fs = tab-fields s at end inside (read .2) b in
         let f = front-more s (end + 1) (fieldAt s at) in

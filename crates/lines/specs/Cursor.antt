@@ -11,7 +11,7 @@ use Rattle.lines.specs.declared.number.Number.the-variants as number
 use Rattle.lines.specs.declared.root.Root.{Root}
 use Rattle.lines.specs.declared.row.Row.{Row}
 use Rattle.lines.specs.declared.row.Row.the-variants as row
-use Rattle.lines.specs.Text.{every, decimal, isNumber, isRoot, hexBytes, fields}
+use Rattle.lines.specs.Text.{allPass, decimal, isNumber, isRoot, hexBytes, fields}
 use Rattle.lines.specs.Lines.{front, last}
 
 -- The bytes up to the first tab or byte 10, and those up to the first byte 10.
@@ -57,20 +57,24 @@ rootAt s at = cond (isRoot (fieldAt s at)) (record { valid = true; bytes = hexBy
 
 -- The rest of the line as numbers, behind `count` others.
 unfoldable pub numbersAt : List ℕ → ℕ → ℕ → Row
-numbersAt s at count = cond (every isNumber (fieldsAt s at)) (row.Read (count + length (fieldsAt s at)) (nextLine s at)) row.Bad
+numbersAt s at count = cond (allPass isNumber (fieldsAt s at)) (row.Read (count + length (fieldsAt s at)) (nextLine s at)) row.Bad
+
+-- The same as exactly `size` numbers.
+unfoldable pub exactlyAt : List ℕ → ℕ → ℕ → ℕ → Row
+exactlyAt s at count size = cond (allPass isNumber (fieldsAt s at) && eqb (length (fieldsAt s at)) size) (row.Read (count + size) (nextLine s at)) row.Bad
 
 -- The same as numbers and a root, which takes the place of eight, and as a number and those.
 abbrev pub isTail : List (List ℕ) → Bool
-isTail fs = every isNumber (front fs) && isRoot (last fs)
+isTail fs = allPass isNumber (front fs) && isRoot (last fs)
 
 unfoldable pub tailAt : List ℕ → ℕ → ℕ → Row
 tailAt s at count = cond (isTail (fieldsAt s at)) (row.Read (count + length (front (fieldsAt s at)) + 8) (nextLine s at)) row.Bad
 
 abbrev pub isItem : List (List ℕ) → Bool
-isItem fs = every isNumber (front fs) && leb 1 (length (front fs)) && isRoot (last fs)
+isItem fs = allPass isNumber (front fs) && leb 1 (length (front fs)) && isRoot (last fs)
 
-unfoldable pub itemAt : List ℕ → ℕ → ℕ → Row
-itemAt s at count = cond (isItem (fieldsAt s at)) (row.Read (count + length (front (fieldsAt s at)) + 8) (nextLine s at)) row.Bad
+unfoldable pub itemRowAt : List ℕ → ℕ → ℕ → Row
+itemRowAt s at count = cond (isItem (fieldsAt s at)) (row.Read (count + length (front (fieldsAt s at)) + 8) (nextLine s at)) row.Bad
 
 -- What those lines append to a buffer.
 abbrev pub numberBytes : List (List ℕ) → List ℕ

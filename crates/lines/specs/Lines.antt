@@ -4,10 +4,10 @@ use mathlib.Core.List.{List, [], _∷_, map}
 use Prim.Native.Nat.{ℕ}
 use lib.ListN.{length}
 use lib.Dec.{eqb, leb}
-use Rattle.theory.specs.Calls.{sameBytes}
+use Rattle.numbers.specs.Equality.{sameBytes}
 use Rattle.lines.specs.declared.keyword.Keyword.{Keyword}
 use Rattle.lines.specs.declared.keyword.Keyword.the-variants.{Size, EntryA, EntryB, EntryC, Item, Wit, End, None}
-use Rattle.lines.specs.Text.{every, decimal, isNumber, isRoot, hexBytes, fields}
+use Rattle.lines.specs.Text.{allPass, decimal, isNumber, isRoot, hexBytes, fields}
 
 -- The keywords as byte strings.
 abbrev pub sizeWord : List ℕ
@@ -64,7 +64,7 @@ broken = record { keyword = None; numbers = []; root = [] }
 
 -- A keyword and numbers.
 abbrev pub numbersLine : Keyword → List (List ℕ) → Line
-numbersLine w fs = cond (every isNumber fs && countFits w (length fs)) (record { keyword = w; numbers = map decimal fs; root = [] }) broken
+numbersLine w fs = cond (allPass isNumber fs && countFits w (length fs)) (record { keyword = w; numbers = map decimal fs; root = [] }) broken
 
 -- The fields before the last, and the last.
 unfoldable pub front : List (List ℕ) → List (List ℕ)
@@ -80,7 +80,7 @@ last (f ∷ g ∷ fs) = last (g ∷ fs)
 -- The keyword `item`, numbers and a root.
 abbrev pub itemLine : List (List ℕ) → Line
 itemLine fs =
-    cond (every isNumber (front fs) && countFits Item (length (front fs)) && isRoot (last fs))
+    cond (allPass isNumber (front fs) && countFits Item (length (front fs)) && isRoot (last fs))
     (record { keyword = Item; numbers = map decimal (front fs); root = hexBytes (last fs) })
     broken
 

@@ -6,9 +6,9 @@ use lib.ListN.{length, getD}
 use lib.Dec.{eqb, leb}
 
 -- Whether every member of a list passes the test.
-unfoldable pub every : {A : Type 0} → (A → Bool) → List A → Bool
-every test [] = true
-every test (x ∷ xs) = test x && every test xs
+unfoldable pub allPass : {A : Type 0} → (A → Bool) → List A → Bool
+allPass test [] = true
+allPass test (x ∷ xs) = test x && allPass test xs
 
 -- ---- numbers: decimal, 1 to 10 digits, no needless leading zero, at most 4294967295
 
@@ -28,7 +28,7 @@ abbrev pub needlessZero : List ℕ → Bool
 needlessZero f = leb 2 (length f) && eqb (getD f 0 0) 48
 
 abbrev pub isNumber : List ℕ → Bool
-isNumber f = leb 1 (length f) && leb (length f) 10 && not (needlessZero f) && every isDigit f && leb (decimal f) 4294967295
+isNumber f = leb 1 (length f) && leb (length f) 10 && not (needlessZero f) && allPass isDigit f && leb (decimal f) 4294967295
 
 -- ---- a root: 64 lower-case hexadecimal digits
 
@@ -40,7 +40,7 @@ abbrev pub hexValue : ℕ → ℕ
 hexValue d = cond (isDigit d) (d - 48) (d - 87)
 
 abbrev pub isRoot : List ℕ → Bool
-isRoot f = eqb (length f) 64 && every isHexDigit f
+isRoot f = eqb (length f) 64 && allPass isHexDigit f
 
 -- The bytes that pairs of digits write, the higher digit first.
 unfoldable pub hexBytes : List ℕ → List ℕ

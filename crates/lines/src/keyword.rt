@@ -2,7 +2,7 @@
 ghost use mathlib.Core.Path.{_≡_};
 ghost use Prim.Native.Nat.{_≤_};
 ghost use lib.ListN.{length};
-ghost use Rattle.theory.specs.Calls.{sameBytes};
+ghost use Rattle.numbers.specs.Equality.{sameBytes};
 ghost use Rattle.lines.specs.Lines.{keywordOf};
 ghost use Rattle.lines.specs.Cursor.{fieldAt, fieldEnd};
 

@@ -4,8 +4,8 @@ ghost use mathlib.Core.Bool.{true};
 ghost use Prim.Native.Nat.{_≤_};
 ghost use lib.ListN.{length};
 ghost use Rattle.numbers.specs.Numbers.{bytes4};
-ghost use Rattle.lines.specs.Text.{every, isNumber};
-ghost use Rattle.lines.specs.Cursor.{fieldsAt, numbersAt, isTail, tailAt, isItem, itemAt, numberBytes, itemBytes, Appended};
+ghost use Rattle.lines.specs.Text.{allPass, isNumber};
+ghost use Rattle.lines.specs.Cursor.{fieldsAt, numbersAt, exactlyAt, isTail, tailAt, isItem, itemRowAt, numberBytes, itemBytes, Appended};
 use crate::number;
 use crate::number::Number;
 use crate::root;
@@ -42,7 +42,7 @@ fn append_root(buffer: &mut [u8], count: usize, root: [u8; 32])
 pub fn read_numbers(s: &[u8], at: usize, buffer: &mut [u8], count: usize) -> Row
     requires { ⌜ (at ≤ length (now s)) × (length (now s) ≤ 60000) × (count ≤ at) ⌝ }
     ensures row { λ r. ⌜ r ≡ numbersAt (now (s .entry)) at count ⌝ }
-    ensures buffer { λ _. ⌜ (every isNumber (fieldsAt (now (s .entry)) at) ≡ true → Appended count (numberBytes (fieldsAt (now (s .entry)) at)) (now (buffer .entry)) (now (buffer .exit))) ⌝ }
+    ensures buffer { λ _. ⌜ (allPass isNumber (fieldsAt (now (s .entry)) at) ≡ true → Appended count (numberBytes (fieldsAt (now (s .entry)) at)) (now (buffer .entry)) (now (buffer .exit))) ⌝ }
 {
     let mut place = at;
     let mut n = count;
@@ -61,6 +61,22 @@ pub fn read_numbers(s: &[u8], at: usize, buffer: &mut [u8], count: usize) -> Row
             return Row::Read(n, place);
         }
     }
+}
+
+// The same for exactly `size` numbers.
+pub fn read_exactly(s: &[u8], at: usize, buffer: &mut [u8], count: usize, size: usize) -> Row
+    requires { ⌜ (at ≤ length (now s)) × (length (now s) ≤ 60000) × (count ≤ at) × (size ≤ 60000) ⌝ }
+    ensures row { λ r. ⌜ r ≡ exactlyAt (now (s .entry)) at count size ⌝ }
+    ensures buffer { λ _. ⌜ (allPass isNumber (fieldsAt (now (s .entry)) at) ≡ true → Appended count (numberBytes (fieldsAt (now (s .entry)) at)) (now (buffer .entry)) (now (buffer .exit))) ⌝ }
+{
+    let read = read_numbers(s, at, buffer, count);
+    let Row::Read(total, next) = read else {
+        return Row::Bad;
+    };
+    if total != count + size {
+        return Row::Bad;
+    }
+    Row::Read(total, next)
 }
 
 // Reads the rest of the line as numbers, if any, and a root, and appends them to the first `count` numbers of the buffer.
@@ -99,7 +115,7 @@ fn read_tail(s: &[u8], at: usize, buffer: &mut [u8], count: usize) -> Row
 // Reads the rest of the line as one number or more and a root, and appends them to the first `count` numbers of the buffer.
 pub fn read_item(s: &[u8], at: usize, buffer: &mut [u8], count: usize) -> Row
     requires { ⌜ (at ≤ length (now s)) × (length (now s) ≤ 60000) × (count ≤ at) ⌝ }
-    ensures row { λ r. ⌜ r ≡ itemAt (now (s .entry)) at count ⌝ }
+    ensures row { λ r. ⌜ r ≡ itemRowAt (now (s .entry)) at count ⌝ }
     ensures buffer { λ _. ⌜ (isItem (fieldsAt (now (s .entry)) at) ≡ true → Appended count (itemBytes (fieldsAt (now (s .entry)) at)) (now (buffer .entry)) (now (buffer .exit))) ⌝ }
 {
     let field = number::before_tab(s, at);

@@ -10,10 +10,11 @@ use lib.Dec.{eqb}
 use lib.ListN.{length, length-append}
 use Rattle.algebra.specs.Lists.{concatTo}
 use Rattle.field.specs.BabyBear.{R, val}
+use Rattle.tree.specs.Layout.{part}
 use Rattle.theory.specs.R1cs.{value}
-use Rattle.theory.specs.Buffers.{numberAt, elements, circuit, itemSize, readItem}
-use Rattle.checks.proofs.Laws.{member-part}
-use Rattle.checks.proofs.Members.{cut}
+use Rattle.theory.specs.Buffers.{numberAt}
+use Rattle.theory.specs.Fp.{elements, circuit, itemSize, itemPart, readItem}
+use Rattle.checks.proofs.Members.{cut, cut-whole}
 use Rattle.lines.proofs.AppendLaws.{placed-none}
 use Rattle.lines.specs.LineWriting.{writeNumber, writeFields, writeLine}
 use Rattle.listing.specs.Listing.{claimE, claimValue, verdictWord, claimLine, claimLines, claimsHead}
@@ -96,24 +97,27 @@ module _ (m n k : ℕ) (a b c items wits : List ℕ) where
   lineAt i = claimLine i (claimValue m n k a b c items wits i) (claimE m n k a b c items wits i)
 
   -- The value and the e of an item and a witness that are cut out of the buffers.
-  module _ (i item wit : ℕ) (at-item : item ≡ i * itemSize m n) (at-wit : wit ≡ i * (4 * k)) where
+  module _ (i item wit : ℕ) {size : ℕ} (sized : size ≡ itemSize m n) (at-item : item ≡ i * size) (at-wit : wit ≡ i * (4 * k)) where
+    item-at : cut items item size ≡ itemPart m n items i
+    item-at = cut-whole items size i at-item ∙ ap (λ (s : ℕ). part items (i * s) s) sized
+
     value-at : {v : ℕ}
-        → v ≡ val (value R (circuit a b c) (readItem m n (cut items item (itemSize m n)) .r) (readItem m n (cut items item (itemSize m n)) .x) (elements k (cut wits wit (4 * k))))
+        → v ≡ val (value R (circuit a b c) (readItem m n (cut items item size) .r) (readItem m n (cut items item size) .x) (elements k (cut wits wit (4 * k))))
         → v ≡ claimValue m n k a b c items wits i
     unfolding claimValue
     value-at h =
         h
         ∙ ap₂ (λ (xs ys : List ℕ). val (value R (circuit a b c) (readItem m n xs .r) (readItem m n xs .x) (elements k ys)))
-        (member-part items (itemSize m n) i at-item)
-        (member-part wits (4 * k) i at-wit)
+        item-at
+        (cut-whole wits (4 * k) i at-wit)
 
-    e-at : {e : ℕ} → e ≡ numberAt (cut items item (itemSize m n)) 0 → e ≡ claimE m n k a b c items wits i
-    e-at h = h ∙ ap (λ (xs : List ℕ). numberAt xs 0) (member-part items (itemSize m n) i at-item)
+    e-at : {e : ℕ} → e ≡ numberAt (cut items item size) 0 → e ≡ claimE m n k a b c items wits i
+    e-at h = h ∙ ap (λ (xs : List ℕ). numberAt xs 0) item-at
 
     -- The line of item i, put right behind those before it.
     pub claims-more : (at : ℕ) (s : List ℕ) {place next v e : ℕ} {t u : List ℕ}
-        → v ≡ val (value R (circuit a b c) (readItem m n (cut items item (itemSize m n)) .r) (readItem m n (cut items item (itemSize m n)) .x) (elements k (cut wits wit (4 * k))))
-        → e ≡ numberAt (cut items item (itemSize m n)) 0
+        → v ≡ val (value R (circuit a b c) (readItem m n (cut items item size) .r) (readItem m n (cut items item size) .x) (elements k (cut wits wit (4 * k))))
+        → e ≡ numberAt (cut items item size) 0
         → Put at (claimLines m n k a b c items wits i) s place t → place ≤ length s → Put place (claimLine i v e) t next u
         → Put at (claimLines m n k a b c items wits (i + 1)) s next u
     claims-more at s {place} {next} {v} {e} {t} {u} hv he before room line =

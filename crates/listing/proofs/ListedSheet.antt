@@ -8,22 +8,25 @@ use native.Mathlib.Omega.{arith}
 use borrow.Author.Tests.{eq-eqb, ne-eqb}
 use lib.ListN.{length, take, drop, length-append}
 use lib.Seq.{take-at}
+use Rattle.numbers.proofs.Tests.{and-left, and-right, _&_}
 use Rattle.theory.specs.Checks.{answer, written}
-use Rattle.theory.specs.Buffers.{itemSize}
-use Rattle.theory.specs.Sizes.{hasLength, elementsBelow, circuitBelow, itemsBelow, circuitInOrder}
-use Rattle.theory.proofs.CheckLaws.{and-left, and-right, _&_, written-accepted}
+use Rattle.theory.specs.Sizes.{hasLength, elementsBelow, circuitBelow, circuitInOrder}
+use Rattle.theory.specs.Fp.{itemSize, itemsBelow}
+use Rattle.numbers.proofs.Tests.{and-left, and-right, _&_}
+use Rattle.theory.proofs.CheckLaws.{written-accepted}
 use Rattle.lines.specs.declared.keyword.Keyword.the-variants.{EntryA, EntryB, EntryC, Item, Wit}
 use Rattle.lines.specs.Lines.{Line}
-use Rattle.sheet.specs.declared.read.Reading.{Reading}
-use Rattle.sheet.specs.Sheet.{sheetLines, m, n, k, pairs, bytesOf}
-use Rattle.sheet.specs.Reading.{buffersFit, sheetChecks, filled, readSheet}
-use Rattle.sheet.proofs.SheetCall.{Called, the-answer, zero-answer, all-passed, read-lines, counts-few, a-long, b-long, c-long, items-long, wits-long}
+use Rattle.validation.specs.declared.reading.Reading.{Reading}
+use Rattle.scan.specs.Sheet.{sheetLines, m, n, k, pairs, bytesOf}
+use Rattle.validation.specs.SheetChecks.{buffersFit, sheetChecks}
+use Rattle.sheet.specs.Reading.{filled, readSheet}
+use Rattle.sheet.proofs.SheetCall.{Called, the-answer, zero-answer, all-passed, read-lines, counts-bounded, a-long, b-long, c-long, items-long, wits-long}
 use Rattle.listing.specs.Listing.{refusal, claims, claimsRead, listingOf, listing}
 use Rattle.listing.proofs.PlacingLaws.{Filled}
 
-pub lent-fit : (a b c items wits : List ℕ) → length a ≡ 12288 → length b ≡ 12288 → length c ≡ 12288 → length items ≡ 20224 → length wits ≡ 16384
+pub scratch-fit : (a b c items wits : List ℕ) → length a ≡ 12288 → length b ≡ 12288 → length c ≡ 12288 → length items ≡ 20224 → length wits ≡ 16384
     → buffersFit a b c items wits ≡ true
-lent-fit a b c items wits la lb lc li lw = eq-eqb _ _ la & eq-eqb _ _ lb & eq-eqb _ _ lc & eq-eqb _ _ li & eq-eqb _ _ lw
+scratch-fit a b c items wits la lb lc li lw = eq-eqb _ _ la & eq-eqb _ _ lb & eq-eqb _ _ lc & eq-eqb _ _ li & eq-eqb _ _ lw
 
 listing-refused : (r : ℕ) (ls : List Line) → (r ≡ 0 → ⊥) → listingOf r ls ≡ refusal r
 listing-refused zero ls h = absurd (h refl)
@@ -110,7 +113,7 @@ module _ (s a b c items wits : List ℕ) (fit : buffersFit a b c items wits ≡ 
     -- What the listing asks, and the listing.
     pub asked : Readable r a′ b′ c′ items′ wits′
     asked =
-        let few = counts-few called z in (
+        let few = counts-bounded called z in (
           (few .m-most, few .n-most, few .k-most, few .pairs-most),
           (
             (front-a .1, front-b .1, front-c .1, front-items .1, front-wits .1),

@@ -8,13 +8,14 @@ use Rattle.algebra.specs.Lists.{concatTo}
 use Rattle.field.specs.BabyBear.{R, val}
 use Rattle.theory.specs.R1cs.{value}
 use Rattle.theory.specs.Checks.{answer}
-use Rattle.theory.specs.Buffers.{numberAt, circuit, itemSize, itemPart, readItem, readWitness}
+use Rattle.theory.specs.Buffers.{numberAt}
+use Rattle.theory.specs.Fp.{circuit, itemSize, itemPart, readItem, readWitness}
 use Rattle.lines.specs.declared.keyword.Keyword.the-variants.{EntryA, EntryB, EntryC, Item, Wit}
 use Rattle.lines.specs.Lines.{Line}
 use Rattle.lines.specs.LineWriting.{writeNumber, writeLine}
-use Rattle.sheet.specs.Sheet.{sheetLines, m, n, k, pairs, bytesOf}
-use Rattle.sheet.specs.declared.read.Reading.{Reading}
-use Rattle.sheet.specs.Reading.{sheetChecks}
+use Rattle.scan.specs.Sheet.{sheetLines, m, n, k, pairs, bytesOf}
+use Rattle.validation.specs.declared.reading.Reading.{Reading}
+use Rattle.validation.specs.SheetChecks.{sheetChecks}
 
 -- ---- an item's line, from the bytes of the circuit, the items and the witnesses
 

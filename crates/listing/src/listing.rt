@@ -3,15 +3,13 @@ ghost use mathlib.Core.Path.{_≡_};
 ghost use mathlib.Core.Bool.{true, cond};
 ghost use Prim.Native.Nat.{_+_, _*_, _≤_, _<_};
 ghost use lib.ListN.{length, take};
-ghost use Rattle.field.specs.BabyBear.{R, val};
-ghost use Rattle.theory.specs.R1cs.{value};
-ghost use Rattle.theory.specs.Buffers.{elements, circuit, itemSize, readItem};
-ghost use Rattle.theory.specs.Sizes.{hasLength, itemBelow, itemsBelow, circuitInOrder};
+ghost use Rattle.theory.specs.Sizes.{hasLength, circuitInOrder};
+ghost use Rattle.theory.specs.Fp.{itemSize, itemsBelow};
 ghost use Rattle.sheet.specs.Reading.{filled};
 ghost use Rattle.listing.specs.Placing.{placed};
 ghost use Rattle.listing.specs.Listing.{verdictWord, claimLine, claimLines, claimsHead, refusal, claimsRead, listing};
 use crate::text;
-use sheet::read::Reading;
+use validation::reading::Reading;
 
 // Puts the word of an item that holds, or of one that differs.
 fn put_verdict(out: &mut [u8], at: usize, holds: bool) -> usize
@@ -61,26 +59,6 @@ fn put_refusal(out: &mut [u8], at: usize, answer: u32) -> usize
     text::put(out, end, b"\n")
 }
 
-// The value of an item with its witness.
-fn value_of(
-    m: usize,
-    n: usize,
-    k: usize,
-    a: &[u8],
-    b: &[u8],
-    c: &[u8],
-    item: &[u8],
-    wit: &[u8],
-) -> u32
-    requires { ⌜ (m ≤ 6) × (n ≤ 64) × (k ≤ 64) × (length (now item) ≡ itemSize m n) × (length (now wit) ≡ 4 * k) ⌝ }
-    requires { ⌜ (itemBelow m n (now item) ≡ true) × (circuitInOrder m n k (now a) (now b) (now c) ≡ true) ⌝ }
-    ensures { λ r. ⌜ r ≡ val (value R (circuit (now (a .entry)) (now (b .entry)) (now (c .entry))) (readItem m n (now (item .entry)) .r) (readItem m n (now (item .entry)) .x) (elements k (now (wit .entry)))) ⌝ }
-{
-    let x = 4 + 4 * m;
-    let end = x + 4 * n;
-    checks::claims::claim_value(m, n, k, a, b, c, &item[4..x], &item[x..end], wit)
-}
-
 // Puts the line of each item.
 fn put_claims(
     m: usize,
@@ -100,7 +78,7 @@ fn put_claims(
     ensures end { λ r. ⌜ r ≡ at + length (claimLines m n k (now (a .entry)) (now (b .entry)) (now (c .entry)) (now (items .entry)) (now (wits .entry)) pairs) ⌝ }
     ensures out { λ _. ⌜ now (out .exit) ≡ placed at (claimLines m n k (now (a .entry)) (now (b .entry)) (now (c .entry)) (now (items .entry)) (now (wits .entry)) pairs) (now (out .entry)) ⌝ }
 {
-    let size = 4 + 4 * m + 4 * n + 32;
+    let size = checks::item::size(m, n);
     let width = 4 * k;
     let mut item = 0;
     let mut wit = 0;
@@ -109,7 +87,7 @@ fn put_claims(
     while i < pairs {
         let next_item = item + size;
         let next_wit = wit + width;
-        let value = value_of(
+        let value = checks::claims::item_value(
             m,
             n,
             k,
@@ -170,7 +148,7 @@ fn put_listing(
     )
 }
 
-// Writes the listing; the five buffers are lent to the sheet reader.
+// Writes the listing; the sheet reader writes to the five buffers.
 fn write_in(
     sheet: &[u8],
     a: &mut [u8],

@@ -7,19 +7,22 @@ use native.Mathlib.Omega.{arith}
 use lib.Dec.{leb}
 use lib.ListN.{length, take}
 use Rattle.algebra.specs.Lists.{All}
+use Rattle.numbers.proofs.Tests.{and-left, and-right}
 use Rattle.theory.specs.Checks.{answer, written}
-use Rattle.theory.specs.Buffers.{itemSize}
-use Rattle.theory.proofs.CheckLaws.{and-left, and-right, Passed, answer-passed}
+use Rattle.theory.specs.Fp.{itemSize}
+use Rattle.numbers.proofs.Tests.{and-left, and-right}
+use Rattle.theory.proofs.CheckLaws.{Passed, answer-passed}
 use Rattle.checks.proofs.Calls as answers
 use Rattle.lines.specs.declared.keyword.Keyword.the-variants.{EntryA, EntryB, EntryC, Item, Wit}
-use Rattle.sheet.specs.declared.read.Reading.{Reading}
-use Rattle.sheet.specs.Sheet.{sheetLines, ordered, bytesOf}
-use Rattle.sheet.specs.Reading.{pairsFit, countsFit, buffersFit, sheetChecks, result, filled, readSheet}
-use Rattle.sheet.specs.Scan.{tally, stateFits}
-use Rattle.sheet.specs.Rooms.{Counted, Rooms}
-use Rattle.sheet.proofs.Contents.{a-size, b-size, c-size, items-size, wits-size}
-use Rattle.sheet.proofs.SheetChecks.{counted, pairs-even, rooms, result-answer}
-use Rattle.sheet.proofs.AfterScan.{Held, front}
+use Rattle.validation.specs.declared.reading.Reading.{Reading}
+use Rattle.scan.specs.Sheet.{sheetLines, ordered, bytesOf, pairsFit}
+use Rattle.validation.specs.SheetChecks.{countsFit, stateFits, buffersFit, sheetChecks, result}
+use Rattle.sheet.specs.Reading.{filled, readSheet}
+use Rattle.scan.specs.Scan.{stateAfter}
+use Rattle.validation.specs.Bounds.{CountBounds, BufferLengths}
+use Rattle.validation.proofs.ByteCounts.{a-size, b-size, c-size, items-size, wits-size}
+use Rattle.validation.proofs.SheetCheckLaws.{count-bounds, state-pairs-fit, buffer-lengths, result-answer}
+use Rattle.validation.proofs.AfterScan.{Held, front}
 
 -- r is the result of the checks, with what check 2 says of the call's buffers.
 pub record Called (s a b c items wits : List ℕ) (r : Reading) : Type 0 where
@@ -55,17 +58,17 @@ module _ {s a b c items wits : List ℕ} {r : Reading} (called : Called s a b c 
     in-order : ordered (sheetLines s) ≡ true
     in-order = and-right (leb (length s) 60000) (ordered (sheetLines s)) (all-passed .0)
 
-    state-fits : stateFits (tally (sheetLines s) 0) ≡ true
+    state-fits : stateFits (stateAfter (sheetLines s) 0) ≡ true
     state-fits = and-left (countsFit (sheetLines s)) (buffersFit a b c items wits) (all-passed .1 .0)
 
-    even-pairs : pairsFit (sheetLines s) ≡ true
-    even-pairs = pairs-even (tally (sheetLines s) 0) state-fits
+    pairs-fit : pairsFit (sheetLines s) ≡ true
+    pairs-fit = state-pairs-fit (stateAfter (sheetLines s) 0) state-fits
 
-    pub counts-few : Counted (r .m) (r .n) (r .k) (r .a) (r .b) (r .c) (r .pairs)
-    counts-few = subst (λ (t : Reading). Counted (t .m) (t .n) (t .k) (t .a) (t .b) (t .c) (t .pairs)) (sym read-lines) (counted (tally (sheetLines s) 0) state-fits)
+    pub counts-bounded : CountBounds (r .m) (r .n) (r .k) (r .a) (r .b) (r .c) (r .pairs)
+    counts-bounded = subst (λ (t : Reading). CountBounds (t .m) (t .n) (t .k) (t .a) (t .b) (t .c) (t .pairs)) (sym read-lines) (count-bounds (stateAfter (sheetLines s) 0) state-fits)
 
-    pub buffers-large : Rooms a b c items wits
-    buffers-large = rooms a b c items wits (and-right (countsFit (sheetLines s)) (buffersFit a b c items wits) (all-passed .1 .0))
+    pub buffers-large : BufferLengths a b c items wits
+    buffers-large = buffer-lengths a b c items wits (and-right (countsFit (sheetLines s)) (buffersFit a b c items wits) (all-passed .1 .0))
 
     -- The lengths of what was read.
     pub a-long : length (bytesOf EntryA (sheetLines s)) ≡ 12 * r .a
@@ -78,29 +81,29 @@ module _ {s a b c items wits : List ℕ} {r : Reading} (called : Called s a b c 
     c-long = c-size s in-order ∙ ap (λ (t : Reading). 12 * t .c) (sym read-lines)
 
     pub items-long : length (bytesOf Item (sheetLines s)) ≡ r .pairs * itemSize (r .m) (r .n)
-    items-long = items-size s in-order even-pairs ∙ ap (λ (t : Reading). t .pairs * itemSize (t .m) (t .n)) (sym read-lines)
+    items-long = items-size s in-order pairs-fit ∙ ap (λ (t : Reading). t .pairs * itemSize (t .m) (t .n)) (sym read-lines)
 
     pub wits-long : length (bytesOf Wit (sheetLines s)) ≡ 4 * (r .pairs * r .k)
-    wits-long = wits-size s in-order even-pairs ∙ ap (λ (t : Reading). 4 * (t .pairs * t .k)) (sym read-lines)
+    wits-long = wits-size s in-order pairs-fit ∙ ap (λ (t : Reading). 4 * (t .pairs * t .k)) (sym read-lines)
 
     -- A buffer that was filled with the front of another, which holds xs there.
-    placed : {i : ℕ} {xs x : List ℕ} (room held : List ℕ) → length xs ≡ i → take (length xs) room ≡ xs → x ≡ filled (take i room) held
+    placed : {i : ℕ} {xs x : List ℕ} (scratch held : List ℕ) → length xs ≡ i → take (length xs) scratch ≡ xs → x ≡ filled (take i scratch) held
         → x ≡ written (answer (sheetChecks s (buffersFit a b c items wits))) (filled xs held) held
-    placed room held l h w = answers.accepted held the-answer z (w ∙ ap (λ (t : List ℕ). filled t held) (front room l h))
+    placed scratch held l h w = answers.accepted held the-answer z (w ∙ ap (λ (t : List ℕ). filled t held) (front scratch l h))
 
-    -- An acceptance fills the buffers with the fronts of the rooms.
-    pub placed-all : (room-a room-b room-c room-items room-wits : List ℕ) {xa xb xc xi xw : List ℕ} → Held s r room-a room-b room-c room-items room-wits
-        → (xa ≡ filled (take (12 * r .a) room-a) a)
-        × ((xb ≡ filled (take (12 * r .b) room-b) b)
-        × ((xc ≡ filled (take (12 * r .c) room-c) c)
-        × ((xi ≡ filled (take (r .pairs * itemSize (r .m) (r .n)) room-items) items)
-        × (xw ≡ filled (take (4 * (r .pairs * r .k)) room-wits) wits))))
+    -- An acceptance fills the buffers with the fronts of the scratch buffers.
+    pub placed-all : (scratch-a scratch-b scratch-c scratch-items scratch-wits : List ℕ) {xa xb xc xi xw : List ℕ} → Held s r scratch-a scratch-b scratch-c scratch-items scratch-wits
+        → (xa ≡ filled (take (12 * r .a) scratch-a) a)
+        × ((xb ≡ filled (take (12 * r .b) scratch-b) b)
+        × ((xc ≡ filled (take (12 * r .c) scratch-c) c)
+        × ((xi ≡ filled (take (r .pairs * itemSize (r .m) (r .n)) scratch-items) items)
+        × (xw ≡ filled (take (4 * (r .pairs * r .k)) scratch-wits) wits))))
         → (let out = readSheet s a b c items wits in (r ≡ out .result) × ((xa ≡ out .a) × ((xb ≡ out .b) × ((xc ≡ out .c) × ((xi ≡ out .items) × (xw ≡ out .wits))))))
     unfolding readSheet
-    placed-all room-a room-b room-c room-items room-wits h w =
-        let pa = placed room-a a a-long (h .0 z) (w .0) in
-        let pb = placed room-b b b-long (h .1 .0 z) (w .1 .0) in
-        let pc = placed room-c c c-long (h .1 .1 .0 z) (w .1 .1 .0) in
-        let pi = placed room-items items items-long (h .1 .1 .1 .0 z) (w .1 .1 .1 .0) in
-        let pw = placed room-wits wits wits-long (h .1 .1 .1 .1 z) (w .1 .1 .1 .1) in
+    placed-all scratch-a scratch-b scratch-c scratch-items scratch-wits h w =
+        let pa = placed scratch-a a a-long (h .0 z) (w .0) in
+        let pb = placed scratch-b b b-long (h .1 .0 z) (w .1 .0) in
+        let pc = placed scratch-c c c-long (h .1 .1 .0 z) (w .1 .1 .0) in
+        let pi = placed scratch-items items items-long (h .1 .1 .1 .0 z) (w .1 .1 .1 .0) in
+        let pw = placed scratch-wits wits wits-long (h .1 .1 .1 .1 z) (w .1 .1 .1 .1) in
         (answered, (pa, (pb, (pc, (pi, pw)))))

@@ -1,5 +1,1 @@
-pub mod Sheet
 pub mod Reading
-pub mod Writing
-pub mod Scan
-pub mod Rooms

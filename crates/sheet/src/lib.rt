@@ -1,5 +1,2 @@
-// The sheet reader: reads a sheet of any bytes into lent buffers. Checks 1 to 4.
-mod line;
-mod order;
+// The sheet reader: reads a sheet of any bytes into the buffers of a call.
 pub mod read;
-mod scan;

@@ -1,6 +1,6 @@
 -- `keyword::same` meets its contract: `check::same` passes exactly for equal byte strings.
 use borrow.Author.Needs.{needs}
-use Rattle.theory.proofs.Equality.{bytes-test}
+use Rattle.numbers.proofs.Tests.{bytes-test}
 use Rattle.lines.proofs.keyword.same.Statement.{statement}
 use Rattle.lines.proofs.keyword.same.Tie as tie
 

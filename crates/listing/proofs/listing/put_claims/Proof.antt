@@ -1,12 +1,12 @@
 -- `listing::put_claims` meets its contract. The invariant: the lines of the first i items are put, in at most 33 bytes each, and the places of item i and of witness i.
-use mathlib.Core.Path.{_≡_, refl, sym, ap}
-use Prim.Native.Nat.{_+_, _-_, _*_, _≤_}
+use mathlib.Core.Path.{_≡_, refl, sym, ap, _∙_}
+use Prim.Native.Nat.{ℕ, _+_, _-_, _*_, _≤_}
 use native.Mathlib.Nat.{zero-mul}
 use native.Mathlib.Omega.{arith}
 use lib.ListN.{length}
-use Rattle.theory.specs.Buffers.{itemSize}
-use Rattle.checks.proofs.Laws.{member-next}
-use Rattle.checks.proofs.Members.{item-within, item-length, item-numbers-below, wit-within, wit-length}
+use Rattle.theory.specs.Fp.{itemBelow}
+use Rattle.checks.proofs.Members.{Member, within, cut-length, cut-passes, next-place}
+use Rattle.checks.proofs.ListLaws.{items-below-read}
 use Rattle.listing.specs.Listing.{claimLines}
 use Rattle.listing.proofs.PlacingLaws.{Put, put-same}
 use Rattle.listing.proofs.ListedLines.{claims-none, claims-more}
@@ -15,81 +15,64 @@ use Rattle.listing.proofs.listing.put_claims.Tie as tie
 
 abbrev Inv-loop : tie.InvT-loop
 Inv-loop m n k pairs a b c items wits out₀ at size width item₀ wit₀ place₀ i₀ out item wit place i =
-    (i ≤ pairs) × (item ≡ i * itemSize m n) × (wit ≡ i * (4 * k)) × (place ≤ at + 33 * i) × (length out ≡ length out₀) × Put at (claimLines m n k a b c items wits i) out₀ place out
+    (i ≤ pairs) × (item ≡ i * size) × (wit ≡ i * (4 * k)) × (place ≤ at + 33 * i) × (length out ≡ length out₀) × Put at (claimLines m n k a b c items wits i) out₀ place out
 
 abbrev μ-loop : tie.MeasureT-loop
 μ-loop m n k pairs a b c items wits out₀ at size width item₀ wit₀ place₀ i₀ out item wit place i = pairs - i
 
-mul-size : tie.Need-mul-size Inv-loop μ-loop
-mul-size c = omega arith
+-- Item i and witness i.
+item-at : (c : tie.In-loop Inv-loop μ-loop) → (let a = c .before .before .before .before .before .before .before .before .before .args in Member (c .before .before .size .result) (a .pairs) (c .before .loop .i) (c .before .loop .item) (a .items .now))
+item-at c =
+    let s = c .before .before .before .before .before .before .before .before .before in
+    record { inside = c .loop-test .taken; place = c .before .loop .inv .1; long = s .pre .0 .4 ∙ ap (λ (size : ℕ). s .args .pairs * size) (sym (c .before .before .size .ensures)) }
 
-add-size : tie.Need-add-size Inv-loop μ-loop
-add-size c = omega arith
+wit-at : (c : tie.In-loop Inv-loop μ-loop) → (let a = c .before .before .before .before .before .before .before .before .before .args in Member (4 * a .k) (a .pairs) (c .before .loop .i) (c .before .loop .wit) (a .wits .now))
+wit-at c = record { inside = c .loop-test .taken; place = c .before .loop .inv .2; long = c .before .before .before .before .before .before .before .before .before .pre .0 .5 }
 
-mul-size-2 : tie.Need-mul-size-2 Inv-loop μ-loop
-mul-size-2 c = omega arith
-
-add-size-2 : tie.Need-add-size-2 Inv-loop μ-loop
-add-size-2 c = omega arith
-
-add-size-3 : tie.Need-add-size-3 Inv-loop μ-loop
-add-size-3 c = omega arith
+size-requires : tie.Need-size-requires Inv-loop μ-loop
+size-requires c κs = omega arith
 
 mul-width : tie.Need-mul-width Inv-loop μ-loop
 mul-width c = omega arith
 
 loop-holds : tie.Need-loop-holds Inv-loop μ-loop
 loop-holds c =
-    let a = c .before .before .before .before .before .before .args in
+    let a = c .before .before .before .before .before .before .before .args in
     (omega arith, sym (zero-mul _), sym (zero-mul _), omega arith, refl, claims-none (a .at) (a .out .now))
 
 add-next-item : tie.Need-add-next-item Inv-loop μ-loop
-add-next-item c =
-    let s = c .before .before .before .before .before .before .before .before in
-    let a = s .args in
-    let l = c .before .loop in
-    omega (arith, item-within (a .m) (a .n) (a .pairs) (l .i) (a .items .now) (l .item) (omega arith) (l .inv .1) (s .pre .0 .4), s .good)
+add-next-item c = let h = within (item-at c) in omega (arith, c .before .before .before .before .before .before .before .before .before .good)
 
 add-next-wit : tie.Need-add-next-wit Inv-loop μ-loop
-add-next-wit c =
-    let s = c .before .before .before .before .before .before .before .before in
+add-next-wit c = let h = within (wit-at c) in omega (arith, c .before .before .before .before .before .before .before .before .before .good)
+
+sub-item-value : tie.Need-sub-item-value Inv-loop μ-loop
+sub-item-value c = omega arith
+
+part-item-value-start : tie.Need-part-item-value-start Inv-loop μ-loop
+part-item-value-start c = omega arith
+
+part-item-value-end : tie.Need-part-item-value-end Inv-loop μ-loop
+part-item-value-end c = within (item-at c)
+
+sub-item-value-2 : tie.Need-sub-item-value-2 Inv-loop μ-loop
+sub-item-value-2 c = omega arith
+
+part-item-value-start-2 : tie.Need-part-item-value-start-2 Inv-loop μ-loop
+part-item-value-start-2 c = omega arith
+
+part-item-value-end-2 : tie.Need-part-item-value-end-2 Inv-loop μ-loop
+part-item-value-end-2 c = within (wit-at (c .before))
+
+item-value-requires : tie.Need-item-value-requires Inv-loop μ-loop
+item-value-requires c κs =
+    let l = c .before .before in
+    let s = l .before .before .before .before .before .before .before .before .before in
     let a = s .args in
-    let l = c .before .loop in
-    omega (arith, wit-within (a .k) (a .pairs) (l .i) (a .wits .now) (l .wit) (omega arith) (l .inv .2) (s .pre .0 .5), s .good)
-
-sub-value-of : tie.Need-sub-value-of Inv-loop μ-loop
-sub-value-of c = omega arith
-
-part-value-of-start : tie.Need-part-value-of-start Inv-loop μ-loop
-part-value-of-start c = omega arith
-
-part-value-of-end : tie.Need-part-value-of-end Inv-loop μ-loop
-part-value-of-end c =
-    let s = c .before .before .before .before .before .before .before .before in
-    let a = s .args in
-    let l = c .before .loop in
-    item-within (a .m) (a .n) (a .pairs) (l .i) (a .items .now) (l .item) (omega arith) (l .inv .1) (s .pre .0 .4)
-
-sub-value-of-2 : tie.Need-sub-value-of-2 Inv-loop μ-loop
-sub-value-of-2 c = omega arith
-
-part-value-of-start-2 : tie.Need-part-value-of-start-2 Inv-loop μ-loop
-part-value-of-start-2 c = omega arith
-
-part-value-of-end-2 : tie.Need-part-value-of-end-2 Inv-loop μ-loop
-part-value-of-end-2 c =
-    let s = c .before .before .before .before .before .before .before .before .before in
-    let a = s .args in
-    let l = c .before .before .loop in
-    wit-within (a .k) (a .pairs) (l .i) (a .wits .now) (l .wit) (omega arith) (l .inv .2) (s .pre .0 .5)
-
-value-of-requires : tie.Need-value-of-requires Inv-loop μ-loop
-value-of-requires c κs =
-    let s = c .before .before .before .before .before .before .before .before .before .before in
-    let a = s .args in
-    let l = c .before .before .before .loop in (
-      (s .pre .0 .0, s .pre .0 .1, s .pre .0 .2, item-length (a .m) (a .n) (a .pairs) (l .i) (a .items .now) (l .item) (omega arith) (l .inv .1) (s .pre .0 .4), wit-length (a .k) (a .pairs) (l .i) (a .wits .now) (l .wit) (omega arith) (l .inv .2) (s .pre .0 .5)),
-      (item-numbers-below (a .m) (a .n) (a .pairs) (l .i) (a .items .now) (l .item) (omega arith) (l .inv .1) (s .pre .0 .4) (s .pre .1 .0), s .pre .1 .1),
+    let size = l .before .before .size .ensures in
+    let long = cut-length (item-at l) in (
+      (s .pre .0 .0, s .pre .0 .1, s .pre .0 .2, omega (arith, size), cut-length (wit-at l)),
+      (cut-passes (item-at l) (itemBelow (a .m) (a .n)) (items-below-read (a .m) (a .n) (a .pairs) (a .items .now) size ∙ s .pre .1 .0), s .pre .1 .1),
     )
 
 sub-get : tie.Need-sub-get Inv-loop μ-loop
@@ -99,18 +82,13 @@ part-get-start : tie.Need-part-get-start Inv-loop μ-loop
 part-get-start c = omega arith
 
 part-get-end : tie.Need-part-get-end Inv-loop μ-loop
-part-get-end c =
-    let s = c .before .before .before .before .before .before .before .before .before .before .before in
-    let a = s .args in
-    let l = c .before .before .before .before .loop in
-    item-within (a .m) (a .n) (a .pairs) (l .i) (a .items .now) (l .item) (omega arith) (l .inv .1) (s .pre .0 .4)
+part-get-end c = within (item-at (c .before .before .before))
 
 get-requires : tie.Need-get-requires Inv-loop μ-loop
 get-requires c κs =
-    let s = c .before .before .before .before .before .before .before .before .before .before .before .before in
-    let a = s .args in
-    let l = c .before .before .before .before .before .loop in
-    omega (arith, item-length (a .m) (a .n) (a .pairs) (l .i) (a .items .now) (l .item) (omega arith) (l .inv .1) (s .pre .0 .4))
+    let l = c .before .before .before .before in
+    let long = cut-length (item-at l) in
+    omega (arith, l .before .before .size .ensures)
 
 cast-put-claim : tie.Need-cast-put-claim Inv-loop μ-loop
 cast-put-claim c = omega arith
@@ -126,17 +104,16 @@ loop-less c = omega arith
 
 loop-again : tie.Need-loop-again Inv-loop μ-loop
 loop-again c =
-    let s = c .before .before .before .before .before .before .before .before .before .before .before .before .before .before .before .before .before in
-    let a = s .args in
+    let a = c .before .before .before .before .before .before .before .before .before .before .before .before .before .before .before .before .before .before .args in
     let l = c .before .before .before .before .before .before .before .before .before .before .loop in
     let put = c .before .before .put-claim .ensures in (
       omega arith,
-      member-next (itemSize (a .m) (a .n)) (l .i) (l .inv .1),
-      member-next (4 * a .k) (l .i) (l .inv .2),
+      next-place _ (l .i) (l .inv .1),
+      next-place (4 * a .k) (l .i) (l .inv .2),
       omega arith,
       omega arith,
-      claims-more (a .m) (a .n) (a .k) (a .a .now) (a .b .now) (a .c .now) (a .items .now) (a .wits .now) (l .i) (l .item) (l .wit) (l .inv .1) (l .inv .2) (a .at) (a .out .now)
-          (c .before .before .before .before .before .before .value-of .ensures) (c .before .before .before .before .get .ensures) (l .inv .5) (omega arith) (put .0 .0, put .1),
+      claims-more (a .m) (a .n) (a .k) (a .a .now) (a .b .now) (a .c .now) (a .items .now) (a .wits .now) (l .i) (l .item) (l .wit) (c .before .before .before .before .before .before .before .before .before .before .before .size .ensures) (l .inv .1) (l .inv .2) (a .at) (a .out .now)
+          (c .before .before .before .before .before .before .item-value .ensures) (c .before .before .before .before .get .ensures) (l .inv .5) (omega arith) (put .0 .0, put .1),
     )
 
 same-length : tie.Need-same-length Inv-loop μ-loop
@@ -144,8 +121,7 @@ same-length c = c .before .loop .inv .4
 
 returns : tie.Need-returns Inv-loop μ-loop
 returns c =
-    let s = c .before .before .before .before .before .before .before .before in
-    let a = s .args in
+    let a = c .before .before .before .before .before .before .before .before .before .args in
     let l = c .before .loop in
     let all : l .i ≡ a .pairs = omega arith in
     put-same (a .at) (a .out .now) (ap (claimLines (a .m) (a .n) (a .k) (a .a .now) (a .b .now) (a .c .now) (a .items .now) (a .wits .now)) all) (l .inv .5)
@@ -156,22 +132,18 @@ put-claims-spec =
     (tie.spec
     Inv-loop
     μ-loop
-    mul-size
-    add-size
-    mul-size-2
-    add-size-2
-    add-size-3
+    size-requires
     mul-width
     loop-holds
     add-next-item
     add-next-wit
-    sub-value-of
-    part-value-of-start
-    part-value-of-end
-    sub-value-of-2
-    part-value-of-start-2
-    part-value-of-end-2
-    value-of-requires
+    sub-item-value
+    part-item-value-start
+    part-item-value-end
+    sub-item-value-2
+    part-item-value-start-2
+    part-item-value-end-2
+    item-value-requires
     sub-get
     part-get-start
     part-get-end

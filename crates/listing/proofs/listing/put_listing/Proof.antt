@@ -5,7 +5,7 @@ use mathlib.Core.List.{_++_}
 use Prim.Native.Nat.{_*_}
 use native.Mathlib.Omega.{arith}
 use lib.ListN.{length, take}
-use Rattle.theory.specs.Buffers.{itemSize}
+use Rattle.theory.specs.Fp.{itemSize}
 use Rattle.checks.proofs.Fronts.{front-length}
 use Rattle.listing.specs.Listing.{claimLines, claimsHead}
 use Rattle.listing.proofs.PlacingLaws.{put-more, put-front}

@@ -1,4 +1,4 @@
--- `listing::write` meets its contract: the lent buffers have the greatest lengths.
+-- `listing::write` meets its contract: the scratch buffers have the greatest lengths.
 use borrow.Author.Needs.{needs}
 use native.Mathlib.Omega.{arith}
 use Rattle.listing.proofs.ListedSheet.{left-alone, written-whole}

@@ -3,7 +3,7 @@ use borrow.Author.Needs.{needs}
 use native.Mathlib.Omega.{arith}
 use Rattle.listing.specs.Listing.{refusal}
 use Rattle.listing.proofs.PlacingLaws.{filled-same, put-front}
-use Rattle.listing.proofs.ListedSheet.{lent-fit, refused, asked, listed}
+use Rattle.listing.proofs.ListedSheet.{scratch-fit, refused, asked, listed}
 use Rattle.listing.proofs.listing.write_in.Statement.{statement}
 use Rattle.listing.proofs.listing.write_in.Tie as tie
 
@@ -37,7 +37,7 @@ returns c =
     let a = s .args in
     let got = c .before .before .before .before .before .before .before .before .before .before .before .before .before .before .before .read in
     let p = s .pre in
-    let fit = lent-fit (a .a .now) (a .b .now) (a .c .now) (a .items .now) (a .wits .now) (p .0) (p .1) (p .2) (p .3) (p .4) in
+    let fit = scratch-fit (a .a .now) (a .b .now) (a .c .now) (a .items .now) (a .wits .now) (p .0) (p .1) (p .2) (p .3) (p .4) in
     let same = refused (a .sheet .now) (a .a .now) (a .b .now) (a .c .now) (a .items .now) (a .wits .now) fit (got .ensures .0) (λ z. absurd (omega arith)) in
     filled-same (a .out .now) same (put-front (refusal (got .result .answer)) (a .out .now) (c .before .before .put-refusal .ensures))
 
@@ -47,7 +47,7 @@ put-listing-requires c κs =
     let a = s .args in
     let got = c .before .before .before .before .before .before .before .before .before .before .before .before .before .before .before .before .before .read in
     let p = s .pre in
-    let fit = lent-fit (a .a .now) (a .b .now) (a .c .now) (a .items .now) (a .wits .now) (p .0) (p .1) (p .2) (p .3) (p .4) in
+    let fit = scratch-fit (a .a .now) (a .b .now) (a .c .now) (a .items .now) (a .wits .now) (p .0) (p .1) (p .2) (p .3) (p .4) in
     let h = asked (a .sheet .now) (a .a .now) (a .b .now) (a .c .now) (a .items .now) (a .wits .now) fit (got .ensures .0) (omega arith) (got .ensures .1 .0) (got .ensures .1 .1 .0) (got .ensures .1 .1 .1 .0) (got .ensures .1 .1 .1 .1 .0) (got .ensures .1 .1 .1 .1 .1) in
     ((h .0 .0, h .0 .1, h .0 .2, h .0 .3, p .5), h .1)
 
@@ -75,7 +75,7 @@ returns-2 c =
     let a = s .args in
     let got = c .before .before .before .before .before .before .before .before .before .before .before .before .before .before .before .before .before .before .before .before .read in
     let p = s .pre in
-    let fit = lent-fit (a .a .now) (a .b .now) (a .c .now) (a .items .now) (a .wits .now) (p .0) (p .1) (p .2) (p .3) (p .4) in
+    let fit = scratch-fit (a .a .now) (a .b .now) (a .c .now) (a .items .now) (a .wits .now) (p .0) (p .1) (p .2) (p .3) (p .4) in
     filled-same (a .out .now)
     (listed (a .sheet .now) (a .a .now) (a .b .now) (a .c .now) (a .items .now) (a .wits .now) fit (got .ensures .0) (omega (arith, c .before .before .before .before .before .before .before .before .before .if1 .left)) (got .ensures .1 .0) (got .ensures .1 .1 .0) (got .ensures .1 .1 .1 .0) (got .ensures .1 .1 .1 .1 .0) (got .ensures .1 .1 .1 .1 .1))
     (c .before .before .put-listing .ensures)

@@ -19,9 +19,6 @@ copy-requires c κs =
     let s = c .before .before .before .before in
     omega (arith, length-take-le (s .args .count) (s .args .xs .now) (s .pre .0))
 
-same-length : tie.Need-same-length
-same-length c = search needs
-
 returns : tie.Need-returns
 returns c =
     let s = c .before .before .before .before .before .before .before in
@@ -31,4 +28,4 @@ returns c =
 pub fill-spec : {M : Type 1} → statement M
 fill-spec =
     tie.close
-    (tie.spec slice-aggregate-copy copy-requires same-length returns)
+    (tie.spec slice-aggregate-copy copy-requires (λ c. search needs) returns)

@@ -2,75 +2,33 @@
 use Prim.Native.Nat.{_*_, _≤_}
 use native.Mathlib.Omega.{arith}
 use lib.ListN.{length}
-use Rattle.theory.specs.Buffers.{itemSize}
-use Rattle.sheet.proofs.SheetChecks.{items-most, wits-most}
+use Rattle.theory.specs.Fp.{itemSize}
+use Rattle.validation.proofs.SheetCheckLaws.{items-most, wits-most}
 use borrow.Author.Needs.{needs}
 use Rattle.sheet.proofs.read.write.Statement.{statement}
 use Rattle.sheet.proofs.read.write.Tie as tie
 
 -- Each front's length is inside.
-a-inside : (s : tie.Start) → (let a = s .args in (12 * a .r .a ≤ length (a .room-a .now)) × (12 * a .r .a ≤ length (a .a .now)))
+a-inside : (s : tie.Start) → (let a = s .args in (12 * a .r .a ≤ length (a .scratch-a .now)) × (12 * a .r .a ≤ length (a .a .now)))
 a-inside s = (omega arith, omega arith)
 
-b-inside : (s : tie.Start) → (let a = s .args in (12 * a .r .b ≤ length (a .room-b .now)) × (12 * a .r .b ≤ length (a .b .now)))
+b-inside : (s : tie.Start) → (let a = s .args in (12 * a .r .b ≤ length (a .scratch-b .now)) × (12 * a .r .b ≤ length (a .b .now)))
 b-inside s = (omega arith, omega arith)
 
-c-inside : (s : tie.Start) → (let a = s .args in (12 * a .r .c ≤ length (a .room-c .now)) × (12 * a .r .c ≤ length (a .c .now)))
+c-inside : (s : tie.Start) → (let a = s .args in (12 * a .r .c ≤ length (a .scratch-c .now)) × (12 * a .r .c ≤ length (a .c .now)))
 c-inside s = (omega arith, omega arith)
 
-items-inside : (s : tie.Start) → (let a = s .args in (a .r .pairs * itemSize (a .r .m) (a .r .n) ≤ length (a .room-items .now)) × (a .r .pairs * itemSize (a .r .m) (a .r .n) ≤ length (a .items .now)))
+items-inside : (s : tie.Start) → (let a = s .args in (a .r .pairs * itemSize (a .r .m) (a .r .n) ≤ length (a .scratch-items .now)) × (a .r .pairs * itemSize (a .r .m) (a .r .n) ≤ length (a .items .now)))
 items-inside s = (omega (arith, items-most (s .pre .0)), omega (arith, items-most (s .pre .0)))
 
-wits-inside : (s : tie.Start) → (let a = s .args in (4 * (a .r .pairs * a .r .k) ≤ length (a .room-wits .now)) × (4 * (a .r .pairs * a .r .k) ≤ length (a .wits .now)))
+wits-inside : (s : tie.Start) → (let a = s .args in (4 * (a .r .pairs * a .r .k) ≤ length (a .scratch-wits .now)) × (4 * (a .r .pairs * a .r .k) ≤ length (a .wits .now)))
 wits-inside s = (omega (arith, wits-most (s .pre .0)), omega (arith, wits-most (s .pre .0)))
-
-cast-pairs : tie.Need-cast-pairs
-cast-pairs c = search needs
-
-cast-item : tie.Need-cast-item
-cast-item c = search needs
-
-mul-item : tie.Need-mul-item
-mul-item c = search needs
-
-add-item : tie.Need-add-item
-add-item c = search needs
-
-cast-item-2 : tie.Need-cast-item-2
-cast-item-2 c = search needs
-
-mul-item-2 : tie.Need-mul-item-2
-mul-item-2 c = search needs
-
-add-item-2 : tie.Need-add-item-2
-add-item-2 c = search needs
-
-add-item-3 : tie.Need-add-item-3
-add-item-3 c = search needs
-
-cast-fill : tie.Need-cast-fill
-cast-fill c = search needs
-
-mul-fill : tie.Need-mul-fill
-mul-fill c = search needs
 
 fill-requires : tie.Need-fill-requires
 fill-requires c κs = a-inside (c .before .before .before .before .before .before .before .before .before .before .before .before .before .before .before)
 
-cast-fill-2 : tie.Need-cast-fill-2
-cast-fill-2 c = search needs
-
-mul-fill-2 : tie.Need-mul-fill-2
-mul-fill-2 c = search needs
-
 fill-requires-2 : tie.Need-fill-requires-2
 fill-requires-2 c κs = b-inside (c .before .before .before .before .before .before .before .before .before .before .before .before .before .before .before .before .before .before .before .before)
-
-cast-fill-3 : tie.Need-cast-fill-3
-cast-fill-3 c = search needs
-
-mul-fill-3 : tie.Need-mul-fill-3
-mul-fill-3 c = search needs
 
 fill-requires-3 : tie.Need-fill-requires-3
 fill-requires-3 c κs = c-inside (c .before .before .before .before .before .before .before .before .before .before .before .before .before .before .before .before .before .before .before .before .before .before .before .before .before)
@@ -81,9 +39,6 @@ mul-fill-4 c = omega (arith, items-most (c .before .before .before .before .befo
 fill-requires-4 : tie.Need-fill-requires-4
 fill-requires-4 c κs = items-inside (c .before .before .before .before .before .before .before .before .before .before .before .before .before .before .before .before .before .before .before .before .before .before .before .before .before .before .before .before .before)
 
-cast-fill-4 : tie.Need-cast-fill-4
-cast-fill-4 c = search needs
-
 mul-fill-5 : tie.Need-mul-fill-5
 mul-fill-5 c = omega (arith, wits-most (c .before .before .before .before .before .before .before .before .before .before .before .before .before .before .before .before .before .before .before .before .before .before .before .before .before .before .before .before .before .before .before .before .before .pre .0))
 
@@ -93,21 +48,6 @@ mul-fill-6 c = omega (arith, wits-most (c .before .before .before .before .befor
 fill-requires-5 : tie.Need-fill-requires-5
 fill-requires-5 c κs = wits-inside (c .before .before .before .before .before .before .before .before .before .before .before .before .before .before .before .before .before .before .before .before .before .before .before .before .before .before .before .before .before .before .before .before .before .before)
 
-same-length : tie.Need-same-length
-same-length c = search needs
-
-same-length-2 : tie.Need-same-length-2
-same-length-2 c = search needs
-
-same-length-3 : tie.Need-same-length-3
-same-length-3 c = search needs
-
-same-length-4 : tie.Need-same-length-4
-same-length-4 c = search needs
-
-same-length-5 : tie.Need-same-length-5
-same-length-5 c = search needs
-
 returns : tie.Need-returns
 returns c = (c .before .before .before .before .before .before .before .before .before .before .before .before .before .before .before .before .before .before .before .before .before .fill .ensures, (c .before .before .before .before .before .before .before .before .before .before .before .before .before .before .before .before .fill2 .ensures, (c .before .before .before .before .before .before .before .before .before .before .before .fill3 .ensures, (c .before .before .before .before .before .before .before .fill4 .ensures, c .before .before .fill5 .ensures))))
 
@@ -115,32 +55,32 @@ pub write-spec : {M : Type 1} → statement M
 write-spec =
     tie.close
     (tie.spec
-    cast-pairs
-    cast-item
-    mul-item
-    add-item
-    cast-item-2
-    mul-item-2
-    add-item-2
-    add-item-3
-    cast-fill
-    mul-fill
+    (λ c. search needs)
+    (λ c. search needs)
+    (λ c. search needs)
+    (λ c. search needs)
+    (λ c. search needs)
+    (λ c. search needs)
+    (λ c. search needs)
+    (λ c. search needs)
+    (λ c. search needs)
+    (λ c. search needs)
     fill-requires
-    cast-fill-2
-    mul-fill-2
+    (λ c. search needs)
+    (λ c. search needs)
     fill-requires-2
-    cast-fill-3
-    mul-fill-3
+    (λ c. search needs)
+    (λ c. search needs)
     fill-requires-3
     mul-fill-4
     fill-requires-4
-    cast-fill-4
+    (λ c. search needs)
     mul-fill-5
     mul-fill-6
     fill-requires-5
-    same-length
-    same-length-2
-    same-length-3
-    same-length-4
-    same-length-5
+    (λ c. search needs)
+    (λ c. search needs)
+    (λ c. search needs)
+    (λ c. search needs)
+    (λ c. search needs)
     returns)

@@ -1,0 +1,6 @@
+mod KeywordLines
+mod LineReading
+mod LineStates
+mod ScanLaws
+pub mod Scanned
+pub mod SheetLaws

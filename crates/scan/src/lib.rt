@@ -1,0 +1,107 @@
+// Check 1 over the whole sheet, in one pass: line by line, each number appended to its buffer as it is read.
+ghost use mathlib.Core.Path.{_≡_};
+ghost use mathlib.Core.Bool.{true};
+ghost use mathlib.Core.List.{[], _∷_};
+ghost use Prim.Native.Nat.{_*_, _≤_, _<_};
+ghost use lib.ListN.{length};
+ghost use Rattle.lines.specs.declared.keyword.Keyword.the-variants.{EntryA, EntryB, EntryC, Item, Wit, End};
+ghost use Rattle.lines.specs.Cursor.{nextLine, Appended};
+ghost use Rattle.scan.specs.Sheet.{sheetLines, ordered, sameKeyword, bytesOf};
+ghost use Rattle.scan.specs.Scan.{stateAfter, step, lineHere, mayStand, Bounded, StartsWith};
+
+mod line;
+pub mod order;
+pub mod state;
+
+use crate::state::State;
+use lines::keyword;
+use lines::keyword::Keyword;
+use lines::row;
+
+// The line at the state's index.
+fn read_line(
+    st: State,
+    s: &[u8],
+    a: &mut [u8],
+    b: &mut [u8],
+    c: &mut [u8],
+    items: &mut [u8],
+    wits: &mut [u8],
+) -> State
+    requires { ⌜ (st .at < length (now s)) × (length (now s) ≤ 60000) × Bounded (length (now s)) st ⌝ }
+    ensures state { λ r. ⌜ r ≡ step st (lineHere (now (s .entry)) st) (nextLine (now (s .entry)) (st .at)) ⌝ }
+    ensures bounded { λ r. ⌜ (mayStand (now (s .entry)) st → Bounded (length (now (s .entry))) r) ⌝ }
+    ensures a { λ _. ⌜ (mayStand (now (s .entry)) st → Appended (3 * st .entries .a) (bytesOf EntryA (lineHere (now (s .entry)) st ∷ [])) (now (a .entry)) (now (a .exit))) ⌝ }
+    ensures b { λ _. ⌜ (mayStand (now (s .entry)) st → Appended (3 * st .entries .b) (bytesOf EntryB (lineHere (now (s .entry)) st ∷ [])) (now (b .entry)) (now (b .exit))) ⌝ }
+    ensures c { λ _. ⌜ (mayStand (now (s .entry)) st → Appended (3 * st .entries .c) (bytesOf EntryC (lineHere (now (s .entry)) st ∷ [])) (now (c .entry)) (now (c .exit))) ⌝ }
+    ensures items { λ _. ⌜ (mayStand (now (s .entry)) st → Appended (st .pairs .items) (bytesOf Item (lineHere (now (s .entry)) st ∷ [])) (now (items .entry)) (now (items .exit))) ⌝ }
+    ensures wits { λ _. ⌜ (mayStand (now (s .entry)) st → Appended (st .pairs .wits) (bytesOf Wit (lineHere (now (s .entry)) st ∷ [])) (now (wits .entry)) (now (wits .exit))) ⌝ }
+{
+    let start = st.at;
+    let last = st.last;
+    let end = keyword::field_end(s, start);
+    let word = keyword::keyword_at(s, start, end);
+    if !order::follows(last, word) {
+        return state::stopped(st);
+    }
+    if end == s.len() {
+        return state::stopped(st);
+    }
+    if s[end] == 10 {
+        return state::stopped(st);
+    }
+    let at = end + 1;
+    let mut entries = st.entries;
+    match word {
+        Keyword::Size => line::size(st, s, at),
+        Keyword::EntryA => {
+            let read = row::read_exactly(s, at, a, 3 * entries.a, 3);
+            entries.a += 1;
+            line::entry(st, Keyword::EntryA, entries, read)
+        }
+        Keyword::EntryB => {
+            let read = row::read_exactly(s, at, b, 3 * entries.b, 3);
+            entries.b += 1;
+            line::entry(st, Keyword::EntryB, entries, read)
+        }
+        Keyword::EntryC => {
+            let read = row::read_exactly(s, at, c, 3 * entries.c, 3);
+            entries.c += 1;
+            line::entry(st, Keyword::EntryC, entries, read)
+        }
+        Keyword::Item => line::item(st, s, at, items),
+        Keyword::Wit => line::witness(st, s, at, wits),
+        Keyword::End => line::end(st, s, at),
+        Keyword::None => state::stopped(st),
+    }
+}
+
+// Reads the lines of s, up to its end or to the first line that breaks the rules.
+pub fn scan(
+    s: &[u8],
+    a: &mut [u8],
+    b: &mut [u8],
+    c: &mut [u8],
+    items: &mut [u8],
+    wits: &mut [u8],
+) -> State
+    requires { ⌜ length (now s) ≤ 60000 ⌝ }
+    ensures ordered { λ r. ⌜ sameKeyword (r .last) End ≡ ordered (sheetLines (now (s .entry))) ⌝ }
+    ensures state { λ r. ⌜ (ordered (sheetLines (now (s .entry))) ≡ true → r ≡ stateAfter (sheetLines (now (s .entry))) (length (now (s .entry)))) ⌝ }
+    ensures a { λ _. ⌜ (ordered (sheetLines (now (s .entry))) ≡ true → StartsWith (bytesOf EntryA (sheetLines (now (s .entry)))) (now (a .exit))) ⌝ }
+    ensures b { λ _. ⌜ (ordered (sheetLines (now (s .entry))) ≡ true → StartsWith (bytesOf EntryB (sheetLines (now (s .entry)))) (now (b .exit))) ⌝ }
+    ensures c { λ _. ⌜ (ordered (sheetLines (now (s .entry))) ≡ true → StartsWith (bytesOf EntryC (sheetLines (now (s .entry)))) (now (c .exit))) ⌝ }
+    ensures items { λ _. ⌜ (ordered (sheetLines (now (s .entry))) ≡ true → StartsWith (bytesOf Item (sheetLines (now (s .entry)))) (now (items .exit))) ⌝ }
+    ensures wits { λ _. ⌜ (ordered (sheetLines (now (s .entry))) ≡ true → StartsWith (bytesOf Wit (sheetLines (now (s .entry)))) (now (wits .exit))) ⌝ }
+{
+    let mut st = state::start();
+    while st.at < s.len() {
+        let next = read_line(st, s, a, b, c, items, wits);
+        let last = next.last;
+        if order::is_none(last) {
+            return next;
+        }
+        st = next;
+    }
+    st
+}

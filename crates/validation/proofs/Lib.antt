@@ -1,0 +1,3 @@
+pub mod AfterScan
+pub mod ByteCounts
+pub mod SheetCheckLaws

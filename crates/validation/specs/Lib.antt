@@ -1,0 +1,2 @@
+pub mod SheetChecks
+pub mod Bounds
