@@ -82,19 +82,20 @@ impl Call {
         let tests = "every allBelow numbers";
         let (unfolding, proof) = match (self.name, answer) {
             ("encode", 0) => (
-                format!("encode {tests} bytes val ofℕ"),
+                format!("encodeOver {tests} bytes val ofℕ"),
                 "λ i. record { answer = 0; code = bytes (map val (codeword-is i)); root = root-is i }"
                     .to_string(),
             ),
             ("cast", 11) => (format!("{tests} babyBear val ofℕ"), format!("cast-runs {arguments} ∙ refl")),
             ("decide", 0 | 10 | 11) => {
-                (format!("{tests} babyBear val ofℕ"), format!("decide-runs {arguments} _ root-is ∙ refl"))
+                (format!("{tests} itemAt babyBear val ofℕ"), format!("decide-runs {arguments} _ root-is ∙ refl"))
             }
             ("verify", 7) => (
                 format!("{tests} depth itemAt val"),
                 format!("verify-runs {arguments} ∙ {}", combined(self.numbers[3] as usize)),
             ),
-            (name, _) => (format!("{name} {tests} depth"), "refl".to_string()),
+            // The definition over an instance: the name alone is an abbreviation.
+            (name, _) => (format!("{}Over {tests} depth", name.trim_matches(['«', '»'])), "refl".to_string()),
         };
         (
             answer,
@@ -355,8 +356,9 @@ use Rattle.code.specs.Points.{depth}
 use lib.ListN.{take}
 use Rattle.theory.specs.Checks.{every, answer}
 use Rattle.theory.specs.Combination.{itemAt}
-use Rattle.theory.specs.Calls.{encode, cast, quotient, fold, «open», verify, decide}
-use Rattle.theory.specs.Calls.{encodeChecks, castChecks, quotientChecks, foldChecks, openChecks, verifyChecks, decideChecks}
+use Rattle.theory.specs.Calls.{encode as encodeOver, cast as castOver, quotient as quotientOver, fold as foldOver, «open» as openOver, verify as verifyOver, decide as decideOver}
+use Rattle.theory.specs.Fp.{encode, cast, quotient, fold, «open», verify, decide}
+use Rattle.theory.specs.Fp.{encodeChecks, castChecks, quotientChecks, foldChecks, openChecks, verifyChecks, decideChecks}
 use Rattle.agreement.specs.Elements.{listed}
 use Rattle.agreement.specs.Runs.{cast-runs, decide-runs, verify-runs}
 use Rattle.agreement.specs.Inverses.{inverse-0-1, inverse-1-0}

@@ -13,7 +13,7 @@ use mathlib.Core.List.{List, [], _∷_, map}
 use Prim.Native.Nat.{ℕ}
 use Rattle.field.specs.BabyBear.{val}
 use Rattle.code.specs.Points.{points}
-use Rattle.code.proofs.Root.{powersFrom, table-points}
+use Rattle.code.proofs.Generator.{powersFrom, table-points}
 use Rattle.code.proofs.Taken.{taken-points}
 use Rattle.agreement.specs.Elements.{listed}
 "
@@ -56,7 +56,7 @@ use mathlib.Core.List.{List, [], _∷_, map}
 use Rattle.algebra.specs.Polynomial.{pow}
 use Rattle.field.specs.BabyBear.{babyBear, val, ofℕ}
 use Rattle.code.specs.Codeword.{codeword, valueAt}
-use Rattle.theory.specs.Instance.{codewordOf}
+use Rattle.theory.specs.Fp.{codewordOf}
 use Rattle.agreement.specs.Elements.{listed}
 use Rattle.agreement.specs.Points.{points-2, points-4, points-8, points-16}
 "
@@ -138,7 +138,7 @@ use Rattle.tree.specs.Merkle.{leafString, nodeString, root}
 use Rattle.tree.specs.Entry.{entry}
 use Rattle.code.specs.Points.{depth}
 use Rattle.theory.specs.Items.{leaves}
-use Rattle.theory.specs.Instance.{sha, codewordOf, witnessRoot}
+use Rattle.theory.specs.Fp.{sha, codewordOf, witnessRoot}
 use Rattle.agreement.specs.Elements.{listed}
 use Rattle.agreement.specs.Runs.{numbers-of}
 use Rattle.agreement.specs.Codewords.{equation-0 as codeword-numbers}
