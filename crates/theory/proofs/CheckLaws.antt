@@ -47,13 +47,6 @@ pub passed-answer : (cs : List Check) → All Passed cs → answer cs ≡ 0
 passed-answer [] h = refl
 passed-answer (c ∷ cs) h = rw (h .0) (passed-answer cs (h .1))
 
--- A check that fails behind checks that pass gives the answer.
-pub answer-refused : (c : Check) (cs : List Check) → c .passes ≡ false → answer (c ∷ cs) ≡ c .number
-answer-refused c cs h = rw h
-
-pub answer-next : (c : Check) (cs : List Check) → c .passes ≡ true → answer (c ∷ cs) ≡ answer cs
-answer-next c cs h = rw h
-
 pub passed-split : (cs ds : List Check) → All Passed (cs ++ ds) → All Passed cs × All Passed ds
 passed-split [] ds h = (tt, h)
 passed-split (c ∷ cs) ds h = let s = passed-split cs ds (h .1) in ((h .0, s .0), s .1)

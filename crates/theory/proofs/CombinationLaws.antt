@@ -1,5 +1,5 @@
--- The combination at a challenge (paper 01, "Claims and folds"): what it is at the nodes, its degree in the challenge, and that the
--- polynomial, the values and the codeword of combined lists are the combinations of those of the lists.
+-- The combination at a challenge (paper 01, "Claims and folds"): what it is at the nodes, its degree in the challenge, and that the codeword of
+-- combined lists is the combination of theirs.
 use mathlib.Core.Path.{_≡_, _∙_, ap}
 use mathlib.Core.List.{List}
 use Prim.Native.Nat.{ℕ, suc, _≤_, _<_}
@@ -10,8 +10,8 @@ use Rattle.algebra.specs.Polynomial.{PolyFn}
 use Rattle.algebra.proofs.ListLaws.{length-build, getD-build, build-cong, build-getD}
 use Rattle.algebra.proofs.SumLaws.{sumTo-cong}
 use Rattle.algebra.proofs.LagrangeLaws.{combine-at, PolyFn-combine}
-use Rattle.code.specs.Codeword.{valueAt, codeword}
-use Rattle.code.proofs.Evaluation.{valueAt-linear, codeword-linear}
+use Rattle.code.specs.Codeword.{codeword}
+use Rattle.code.proofs.Evaluation.{codeword-linear}
 use Rattle.theory.specs.Combination.{node, L, mix, mixLists}
 
 module _ (F : Field) where
@@ -30,11 +30,7 @@ module _ (F : Field) where
   getD-mixLists size l lists a b h = getD-build size (λ b. mix F l (λ i. getD (lists i) b 𝟘) a) b 𝟘 h
 
   module _ (size l : ℕ) (lists : ℕ → List K) (sized : (i : ℕ) → i < l → length (lists i) ≡ size) where
-    -- The value at x of the combined lists is the combination of their values at x.
-    pub valueAt-mixLists : (a x : K) → valueAt R (mixLists F size l lists a) x ≡ mix F l (λ i. valueAt R (lists i) x) a
-    valueAt-mixLists a x = valueAt-linear R size l (λ i. L F l i a) lists sized x
-
-    -- And of their codewords, at each position.
+    -- The codeword of the combined lists is the combination of their codewords, at each position.
     pub codeword-mixLists : (a : K) (points : List K) (q : ℕ) → q < length points
         → getD (codeword R points (mixLists F size l lists a)) q 𝟘 ≡ mix F l (λ i. getD (codeword R points (lists i)) q 𝟘) a
     codeword-mixLists a points q h = codeword-linear R size l (λ i. L F l i a) lists sized points q h
