@@ -27,7 +27,7 @@ impl Graph {
         }
     }
 
-    /// The longest way down from each crate; none where the ways go round in a circle.
+    /// The longest path down from each crate; none where there is a cycle.
     fn depths(&self) -> Option<Vec<usize>> {
         let mut depths = vec![0; self.names.len()];
         for _ in 0..=self.names.len() {
@@ -65,7 +65,7 @@ impl Graph {
         reached
     }
 
-    /// The same without the arrows that a longer way stands for.
+    /// The same without the arrows that a longer path stands for.
     pub fn reduced(&self) -> Graph {
         let reached = self.reached();
         let direct = |list: &Vec<usize>| {

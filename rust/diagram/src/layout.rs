@@ -1,6 +1,6 @@
-//! Where the crates stand: in layers, each above what it stands on, with few crossings and short ways.
+//! Where the crates stand: in layers, each above what it stands on, with few crossings and short edges.
 //!
-//! A way that passes a layer has a place of its own there. All ways to one crate share it, so that they run together.
+//! An edge that passes a layer has a place of its own there, a dummy. All edges to one crate share it, so that they run together.
 
 use crate::graph::Graph;
 use std::collections::BTreeMap;
@@ -8,15 +8,15 @@ use std::collections::BTreeMap;
 #[derive(Clone, Copy, PartialEq, Eq, PartialOrd, Ord, Debug)]
 pub enum Place {
     Crate(usize),
-    /// The ways to a crate, in a layer that they pass.
-    Way(usize, usize),
+    /// The edges to a crate, in a layer that they pass.
+    Dummy(usize, usize),
 }
 
 pub struct Layout {
     /// The places of each layer from left to right, the lowest layer first.
     pub layers: Vec<Vec<Place>>,
-    /// Each piece of a way: a place, and the one in the layer below.
-    pub pieces: Vec<(Place, Place)>,
+    /// Each segment of an edge: a place, and the one in the layer below.
+    pub segments: Vec<(Place, Place)>,
     /// The middle of each place, from the left edge.
     pub middle: BTreeMap<Place, f64>,
     pub width: f64,
@@ -25,7 +25,7 @@ pub struct Layout {
 /// The widths that the layout keeps to.
 pub struct Widths {
     pub block: f64,
-    pub way: f64,
+    pub dummy: f64,
     pub gap: f64,
     /// Of the whole, unless a layer needs more.
     pub whole: f64,
@@ -35,7 +35,7 @@ impl Widths {
     fn of(&self, place: Place) -> f64 {
         match place {
             Place::Crate(_) => self.block,
-            Place::Way(..) => self.way,
+            Place::Dummy(..) => self.dummy,
         }
     }
 
@@ -51,26 +51,26 @@ impl Widths {
 
 type Neighbours = BTreeMap<Place, Vec<Place>>;
 
-/// The places of each layer, not yet in order, and the pieces of the ways.
+/// The places of each layer, not yet in order, and the segments of the edges.
 fn places(graph: &Graph, most: usize) -> (Vec<Vec<Place>>, Vec<(Place, Place)>) {
     let layer_of = graph.layers(most);
     let count = layer_of.iter().max().map_or(0, |top| top + 1);
     let mut layers = vec![vec![]; count];
-    let mut pieces = vec![];
+    let mut segments = vec![];
     for (c, &layer) in layer_of.iter().enumerate() {
         layers[layer].push(Place::Crate(c));
     }
     for (target, &lowest) in layer_of.iter().enumerate() {
-        let place = |layer| if layer == lowest { Place::Crate(target) } else { Place::Way(target, layer) };
+        let place = |layer| if layer == lowest { Place::Crate(target) } else { Place::Dummy(target, layer) };
         let from: Vec<usize> = (0..graph.names.len()).filter(|&c| graph.below[c].contains(&target)).collect();
         let top = from.iter().map(|&c| layer_of[c]).max().unwrap_or(0);
         for (layer, passed) in layers.iter_mut().enumerate().take(top).skip(lowest + 1) {
             passed.push(place(layer));
-            pieces.push((place(layer), place(layer - 1)));
+            segments.push((place(layer), place(layer - 1)));
         }
-        pieces.extend(from.iter().map(|&c| (Place::Crate(c), place(layer_of[c] - 1))));
+        segments.extend(from.iter().map(|&c| (Place::Crate(c), place(layer_of[c] - 1))));
     }
-    (layers, pieces)
+    (layers, segments)
 }
 
 /// How far each place is from the middle of its layer, counted in places.
@@ -82,19 +82,19 @@ fn ranks(layers: &[Vec<Place>]) -> BTreeMap<Place, f64> {
         .collect()
 }
 
-/// Crossings of pieces, and then the pieces' length: the less, the better.
-fn cost(layers: &[Vec<Place>], pieces: &[(Place, Place)]) -> (usize, f64) {
+/// Crossings of segments, and then the segments' length: the less, the better.
+fn cost(layers: &[Vec<Place>], segments: &[(Place, Place)]) -> (usize, f64) {
     let ranks = ranks(layers);
     let layer_of: BTreeMap<Place, usize> =
         layers.iter().enumerate().flat_map(|(i, layer)| layer.iter().map(move |&place| (place, i))).collect();
     let mut crossings = 0;
-    for (i, (up, down)) in pieces.iter().enumerate() {
-        for (other_up, other_down) in &pieces[..i] {
+    for (i, (up, down)) in segments.iter().enumerate() {
+        for (other_up, other_down) in &segments[..i] {
             let apart = (ranks[up] - ranks[other_up]) * (ranks[down] - ranks[other_down]);
             crossings += (layer_of[up] == layer_of[other_up] && apart < 0.0) as usize;
         }
     }
-    (crossings, pieces.iter().map(|(up, down)| (ranks[up] - ranks[down]).abs()).sum())
+    (crossings, segments.iter().map(|(up, down)| (ranks[up] - ranks[down]).abs()).sum())
 }
 
 /// Sorts a layer by the mean rank of each place's neighbours; a place without any stays where it is.
@@ -108,8 +108,8 @@ fn sort(layers: &mut [Vec<Place>], i: usize, neighbours: &Neighbours) {
 }
 
 /// Moves single places within their layers as long as that makes the cost less.
-fn settle(layers: &mut [Vec<Place>], pieces: &[(Place, Place)]) {
-    let mut best = cost(layers, pieces);
+fn settle(layers: &mut [Vec<Place>], segments: &[(Place, Place)]) {
+    let mut best = cost(layers, segments);
     loop {
         let before = best;
         for i in 0..layers.len() {
@@ -118,7 +118,7 @@ fn settle(layers: &mut [Vec<Place>], pieces: &[(Place, Place)]) {
                     let old = layers[i].clone();
                     let place = layers[i].remove(from);
                     layers[i].insert(to, place);
-                    let now = cost(layers, pieces);
+                    let now = cost(layers, segments);
                     if now < best {
                         best = now;
                     } else {
@@ -133,9 +133,9 @@ fn settle(layers: &mut [Vec<Place>], pieces: &[(Place, Place)]) {
     }
 }
 
-fn neighbours(pieces: &[(Place, Place)]) -> (Neighbours, Neighbours) {
+fn neighbours(segments: &[(Place, Place)]) -> (Neighbours, Neighbours) {
     let (mut above, mut below) = (Neighbours::new(), Neighbours::new());
-    for &(up, down) in pieces {
+    for &(up, down) in segments {
         below.entry(up).or_default().push(down);
         above.entry(down).or_default().push(up);
     }
@@ -143,16 +143,16 @@ fn neighbours(pieces: &[(Place, Place)]) -> (Neighbours, Neighbours) {
 }
 
 /// Puts the places of each layer in order: sweeps up and down, each then settled; the best counts.
-fn order(layers: &mut Vec<Vec<Place>>, pieces: &[(Place, Place)]) {
-    let (above, below) = neighbours(pieces);
+fn order(layers: &mut Vec<Vec<Place>>, segments: &[(Place, Place)]) {
+    let (above, below) = neighbours(segments);
     let mut best = layers.clone();
-    settle(&mut best, pieces);
+    settle(&mut best, segments);
     for _ in 0..4 {
         (1..layers.len()).for_each(|i| sort(layers, i, &below));
         (0..layers.len()).rev().for_each(|i| sort(layers, i, &above));
         let mut settled = layers.clone();
-        settle(&mut settled, pieces);
-        if cost(&settled, pieces) < cost(&best, pieces) {
+        settle(&mut settled, segments);
+        if cost(&settled, segments) < cost(&best, segments) {
             best = settled;
         }
     }
@@ -172,14 +172,14 @@ fn ascending(wanted: &[(f64, f64)]) -> Vec<f64> {
     pools.iter().flat_map(|&(value, _, count)| vec![value; count]).collect()
 }
 
-/// Each place's neighbours above and below, and how straight the piece to each is to be: more within a way, and where two crates have no
-/// other piece on that side.
-fn pulls(pieces: &[(Place, Place)]) -> BTreeMap<Place, Vec<(Place, f64)>> {
-    let (above, below) = neighbours(pieces);
+/// Each place's neighbours above and below, and how straight the segment to each is to be: more within an edge, and where two crates have no
+/// other segment on that side.
+fn pulls(segments: &[(Place, Place)]) -> BTreeMap<Place, Vec<(Place, f64)>> {
+    let (above, below) = neighbours(segments);
     let mut pulls: BTreeMap<Place, Vec<(Place, f64)>> = BTreeMap::new();
-    for &(up, down) in pieces {
+    for &(up, down) in segments {
         let straight = match (up, down) {
-            (Place::Way(..), Place::Way(..)) => true,
+            (Place::Dummy(..), Place::Dummy(..)) => true,
             (Place::Crate(_), Place::Crate(_)) => below[&up].len() == 1 && above[&down].len() == 1,
             _ => false,
         };
@@ -225,10 +225,10 @@ fn align(
 impl Layout {
     /// Lays out a graph without needless arrows.
     pub fn new(graph: &Graph, widths: &Widths) -> Layout {
-        let (mut layers, pieces) = places(graph, widths.most());
-        order(&mut layers, &pieces);
+        let (mut layers, segments) = places(graph, widths.most());
+        order(&mut layers, &segments);
         let room = layers.iter().map(|layer| widths.of_layer(layer)).fold(widths.whole, f64::max);
-        let pulls = pulls(&pieces);
+        let pulls = pulls(&segments);
         let mut middle: BTreeMap<Place, f64> =
             layers.iter().flatten().map(|&place| (place, room / 2.0)).collect();
         for _ in 0..2000 {
@@ -238,7 +238,7 @@ impl Layout {
         let left = middle.iter().map(|(&place, x)| x - widths.of(place) / 2.0).fold(room, f64::min);
         let right = middle.iter().map(|(&place, x)| x + widths.of(place) / 2.0).fold(0.0, f64::max);
         middle.values_mut().for_each(|x| *x -= left);
-        Layout { layers, pieces, middle, width: right - left }
+        Layout { layers, segments, middle, width: right - left }
     }
 }
 
@@ -246,13 +246,13 @@ impl Layout {
 mod tests {
     use super::*;
 
-    const WIDTHS: Widths = Widths { block: 100.0, way: 10.0, gap: 10.0, whole: 500.0 };
+    const WIDTHS: Widths = Widths { block: 100.0, dummy: 10.0, gap: 10.0, whole: 500.0 };
 
     fn layout(text: &str) -> Layout {
         Layout::new(&Graph::read(text).unwrap().reduced(), &WIDTHS)
     }
 
-    /// Places of a layer stand apart and inside; every piece goes one layer down.
+    /// Places of a layer stand apart and inside; every segment goes one layer down.
     fn sound(layout: &Layout) {
         for layer in &layout.layers {
             let edge = |place: Place, side: f64| layout.middle[&place] + side * WIDTHS.of(place) / 2.0;
@@ -262,22 +262,22 @@ mod tests {
                 .all(|pair| edge(pair[1], -1.0) - edge(pair[0], 1.0) > WIDTHS.gap - 1e-6));
         }
         let layer_of = |place| layout.layers.iter().position(|layer| layer.contains(place)).unwrap();
-        assert!(layout.pieces.iter().all(|(up, down)| layer_of(up) == layer_of(down) + 1));
+        assert!(layout.segments.iter().all(|(up, down)| layer_of(up) == layer_of(down) + 1));
     }
 
     #[test]
     fn no_crossing_is_left() {
         let layout = layout("a:\nb:\nc:\nd: c\ne: b\nf: a\ng: c\nh: d e f g");
         sound(&layout);
-        assert_eq!(cost(&layout.layers, &layout.pieces).0, 0);
+        assert_eq!(cost(&layout.layers, &layout.segments).0, 0);
     }
 
     #[test]
-    fn ways_share_their_places() {
+    fn edges_share_their_places() {
         let layout = layout("a:\nb:\nc: b\nd: c\ne: a d\nf: a d");
         sound(&layout);
         assert_eq!(layout.layers.iter().map(Vec::len).collect::<Vec<_>>(), [2, 2, 2, 2]);
-        assert_eq!(layout.pieces.len(), 8);
+        assert_eq!(layout.segments.len(), 8);
     }
 
     #[test]

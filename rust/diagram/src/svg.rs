@@ -8,7 +8,7 @@ use std::fmt::Write;
 
 pub const MOST_LINES: usize = 4;
 
-const WIDTHS: Widths = Widths { block: 176.0, way: 8.0, gap: 16.0, whole: 980.0 };
+const WIDTHS: Widths = Widths { block: 176.0, dummy: 8.0, gap: 16.0, whole: 980.0 };
 const MARGIN: f64 = 10.0;
 const BETWEEN_LAYERS: f64 = 44.0;
 const NAME_SIZE: f64 = 15.0;
@@ -82,7 +82,7 @@ pub fn draw(graph: &Graph, crates: &[Drawn]) -> String {
     let height = |layer: &Vec<Place>| {
         let texts = layer.iter().map(|place| match place {
             Place::Crate(c) => text_height(&crates[*c]),
-            Place::Way(..) => 0.0,
+            Place::Dummy(..) => 0.0,
         });
         texts.fold(0.0, f64::max) + 10.0
     };
@@ -101,7 +101,7 @@ pub fn draw(graph: &Graph, crates: &[Drawn]) -> String {
     writeln!(out, "<style>").unwrap();
     writeln!(out, "text{{font-family:Helvetica,Arial,'Liberation Sans','DejaVu Sans',sans-serif;font-size:{SIZE}px;text-anchor:middle;fill:#1c1c1c}}").unwrap();
     writeln!(out, ".name{{font-size:{NAME_SIZE}px;font-weight:bold}}").unwrap();
-    writeln!(out, ".way{{fill:none;stroke:#808890;stroke-width:1.5}}").unwrap();
+    writeln!(out, ".edge{{fill:none;stroke:#808890;stroke-width:1.5}}").unwrap();
     writeln!(out, ".head{{fill:#808890}}").unwrap();
     for (_, class, _, style) in KINDS {
         writeln!(out, ".{class}{{{style}}}").unwrap();
@@ -109,17 +109,17 @@ pub fn draw(graph: &Graph, crates: &[Drawn]) -> String {
     writeln!(out, "</style>").unwrap();
 
     let layer_of = |place: &Place| layout.layers.iter().position(|layer| layer.contains(place)).unwrap();
-    for (up, down) in &layout.pieces {
+    for (up, down) in &layout.segments {
         let (from, to) = (layer_of(up), layer_of(down));
         let start = tops[from] + heights[from];
-        // Into a crate the line ends where the arrow's head begins; a way goes on through its layer.
+        // Into a crate the line ends where the arrow's head begins; an edge goes on through its layer.
         let (end, on) = match down {
             Place::Crate(_) => (tops[to] - HEAD, String::new()),
-            Place::Way(..) => (tops[to], format!("V{:.1}", tops[to] + heights[to])),
+            Place::Dummy(..) => (tops[to], format!("V{:.1}", tops[to] + heights[to])),
         };
         let half = (start + end) / 2.0;
         let (a, b) = (x(up), x(down));
-        writeln!(out, r#"<path class="way" d="M{a:.1} {start:.1}C{a:.1} {half:.1} {b:.1} {half:.1} {b:.1} {end:.1}{on}"/>"#).unwrap();
+        writeln!(out, r#"<path class="edge" d="M{a:.1} {start:.1}C{a:.1} {half:.1} {b:.1} {half:.1} {b:.1} {end:.1}{on}"/>"#).unwrap();
     }
     for (c, drawn) in crates.iter().enumerate() {
         let place = Place::Crate(c);

@@ -1,7 +1,7 @@
-//! The seven calls and the reader of sheets. Each lends its arguments to the library in the layout of
+//! The seven calls and the reader of sheets. Each passes its arguments to the library in the layout of
 //! `include/lomvuze.h`, and reads what the library wrote.
 
-use crate::layout::{lent_entries, lent_items, lent_numbers, lent_openings, lent_witnesses};
+use crate::layout::{entries_buffer, items_buffer, numbers_buffer, openings_buffer, witnesses_buffer};
 use crate::numbers_from_bytes;
 use crate::refusal::accepted;
 use crate::sizes::{ENTRY_BYTES, MOST_NUMBERS};
@@ -31,8 +31,8 @@ fn count<T>(list: &[T]) -> u32 {
 }
 
 /// The lists A, B and C.
-fn lent_circuit(circuit: &Circuit) -> [Vec<u8>; 3] {
-    [&circuit.a, &circuit.b, &circuit.c].map(|entries| lent_entries(entries))
+fn circuit_buffers(circuit: &Circuit) -> [Vec<u8>; 3] {
+    [&circuit.a, &circuit.b, &circuit.c].map(|entries| entries_buffer(entries))
 }
 
 /// The sizes for a call that takes k alone: m and n are the least.
@@ -62,7 +62,7 @@ fn sizes_of_witness(k: u32) -> Sizes {
 /// ```
 pub fn encode(k: u32, witness: &[u32]) -> Result<Encoded, Refusal> {
     let (mut code, mut root) = (output(sizes_of_witness(k).codeword_bytes()), [0; 32]);
-    accepted(library::encode(k, &lent_numbers(witness), &mut code, &mut root))?;
+    accepted(library::encode(k, &numbers_buffer(witness), &mut code, &mut root))?;
     Ok(Encoded { code: numbers_from_bytes(&code)?, root })
 }
 
@@ -98,8 +98,8 @@ pub fn encode(k: u32, witness: &[u32]) -> Result<Encoded, Refusal> {
 /// ```
 pub fn cast(sizes: Sizes, circuit: &Circuit, r: &[u32], x: &[u32], witness: &[u32]) -> Result<Item, Refusal> {
     let Sizes { m, n, k } = sizes;
-    let [a, b, c] = lent_circuit(circuit);
-    let [r, x, w] = [r, x, witness].map(lent_numbers);
+    let [a, b, c] = circuit_buffers(circuit);
+    let [r, x, w] = [r, x, witness].map(numbers_buffer);
     let mut item = output(sizes.item_bytes());
     accepted(library::cast(m, n, k, &a, &b, &c, &r, &x, &w, &mut item))?;
     Item::from_bytes(sizes, &item)
@@ -145,10 +145,10 @@ pub fn quotient(
     witnesses: &[impl AsRef<[u32]>],
 ) -> Result<Vec<u32>, Refusal> {
     let Sizes { m, n, k } = sizes;
-    let [a, b, c] = lent_circuit(circuit);
-    let (l, lent, wits) = (count(items), lent_items(sizes, items), lent_witnesses(sizes, witnesses));
+    let [a, b, c] = circuit_buffers(circuit);
+    let (l, packed, wits) = (count(items), items_buffer(sizes, items), witnesses_buffer(sizes, witnesses));
     let mut quotient = output(sizes.quotient_bytes(items.len()));
-    accepted(library::quotient(m, n, k, l, &a, &b, &c, &lent, &wits, &mut quotient))?;
+    accepted(library::quotient(m, n, k, l, &a, &b, &c, &packed, &wits, &mut quotient))?;
     numbers_from_bytes(&quotient)
 }
 
@@ -201,8 +201,8 @@ pub fn fold(
     witnesses: &[impl AsRef<[u32]>],
 ) -> Result<Folded, Refusal> {
     let Sizes { m, n, k } = sizes;
-    let [a, b, c] = lent_circuit(circuit);
-    let (l, lent, wits) = (count(items), lent_items(sizes, items), lent_witnesses(sizes, witnesses));
+    let [a, b, c] = circuit_buffers(circuit);
+    let (l, packed, wits) = (count(items), items_buffer(sizes, items), witnesses_buffer(sizes, witnesses));
     let mut quotient = output(sizes.quotient_bytes(items.len()));
     let (mut item, mut wit) = (output(sizes.item_bytes()), output(sizes.witness_bytes()));
     accepted(library::fold(
@@ -214,7 +214,7 @@ pub fn fold(
         &a,
         &b,
         &c,
-        &lent,
+        &packed,
         &wits,
         &mut quotient,
         &mut item,
@@ -254,8 +254,8 @@ pub fn fold(
 pub fn open(k: u32, witness: &[u32], positions: &[u32]) -> Result<Vec<Opening>, Refusal> {
     let sizes = sizes_of_witness(k);
     let mut openings = output(sizes.openings_bytes(positions.len()));
-    let (w, lent) = (lent_numbers(witness), lent_numbers(positions));
-    accepted(library::open(k, count(positions), &w, &lent, &mut openings))?;
+    let (w, places) = (numbers_buffer(witness), numbers_buffer(positions));
+    accepted(library::open(k, count(positions), &w, &places, &mut openings))?;
     openings.chunks(sizes.opening_bytes()).map(Opening::from_bytes).collect()
 }
 
@@ -315,9 +315,9 @@ pub fn verify(
 ) -> Result<(), Refusal> {
     let Sizes { m, n, k } = sizes;
     let (l, t) = (count(items), count(positions));
-    let (items, new_item) = (lent_items(sizes, items), lent_items(sizes, from_ref(new_item)));
-    let openings = lent_openings(sizes, positions.len(), openings);
-    let [positions, quotient] = [positions, quotient].map(lent_numbers);
+    let (items, new_item) = (items_buffer(sizes, items), items_buffer(sizes, from_ref(new_item)));
+    let openings = openings_buffer(sizes, positions.len(), openings);
+    let [positions, quotient] = [positions, quotient].map(numbers_buffer);
     accepted(library::verify(m, n, k, l, t, challenge, &items, &positions, &quotient, &new_item, &openings))
 }
 
@@ -353,8 +353,8 @@ pub fn verify(
 /// ```
 pub fn decide(sizes: Sizes, circuit: &Circuit, item: &Item, witness: &[u32]) -> Result<(), Refusal> {
     let Sizes { m, n, k } = sizes;
-    let [a, b, c] = lent_circuit(circuit);
-    let (item, w) = (lent_items(sizes, from_ref(item)), lent_numbers(witness));
+    let [a, b, c] = circuit_buffers(circuit);
+    let (item, w) = (items_buffer(sizes, from_ref(item)), numbers_buffer(witness));
     accepted(library::decide(m, n, k, &a, &b, &c, &item, &w))
 }
 

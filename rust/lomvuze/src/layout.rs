@@ -128,23 +128,23 @@ impl Opening {
     }
 }
 
-// ---- What the library is lent
+// ---- The buffers that the library is passed
 
-// A list of numbers or entries is lent as it is, up to one more than check 2 permits. A list of parts that
-// have a length themselves is lent as an empty buffer where one has another length: its bytes would be those
+// A list of numbers or entries is passed as it is, up to one more than check 2 permits. A list of parts that
+// have a length themselves is passed as an empty buffer where one has another length: its bytes would be those
 // of other parts. No call permits an empty buffer there.
 
 /// r, x, one witness, positions or a quotient.
-pub(crate) fn lent_numbers(numbers: &[u32]) -> Vec<u8> {
+pub(crate) fn numbers_buffer(numbers: &[u32]) -> Vec<u8> {
     numbers_to_bytes(up_to(numbers, MOST_NUMBERS + 1))
 }
 
 /// One of a circuit's lists.
-pub(crate) fn lent_entries(entries: &[Entry]) -> Vec<u8> {
+pub(crate) fn entries_buffer(entries: &[Entry]) -> Vec<u8> {
     up_to(entries, MAX_ENTRIES + 1).iter().flat_map(Entry::to_bytes).collect()
 }
 
-pub(crate) fn lent_items(sizes: Sizes, items: &[Item]) -> Vec<u8> {
+pub(crate) fn items_buffer(sizes: Sizes, items: &[Item]) -> Vec<u8> {
     let items = up_to(items, MAX_L + 1);
     let fits = |item: &Item| item.r.len() == sizes.m as usize && item.x.len() == sizes.n as usize;
     if !sizes.are_within_limits() || !items.iter().all(fits) {
@@ -153,7 +153,7 @@ pub(crate) fn lent_items(sizes: Sizes, items: &[Item]) -> Vec<u8> {
     items.iter().flat_map(Item::to_bytes).collect()
 }
 
-pub(crate) fn lent_witnesses(sizes: Sizes, witnesses: &[impl AsRef<[u32]>]) -> Vec<u8> {
+pub(crate) fn witnesses_buffer(sizes: Sizes, witnesses: &[impl AsRef<[u32]>]) -> Vec<u8> {
     let witnesses: Vec<&[u32]> = up_to(witnesses, MAX_L + 1).iter().map(AsRef::as_ref).collect();
     let fits = |witness: &&[u32]| witness.len() == sizes.k as usize;
     if !sizes.are_within_limits() || !witnesses.iter().all(fits) {
@@ -164,7 +164,7 @@ pub(crate) fn lent_witnesses(sizes: Sizes, witnesses: &[impl AsRef<[u32]>]) -> V
 
 /// The openings of each item and of the new one at t positions: position by position and, within one, item by
 /// item.
-pub(crate) fn lent_openings(sizes: Sizes, t: usize, openings: &[impl AsRef<[Opening]>]) -> Vec<u8> {
+pub(crate) fn openings_buffer(sizes: Sizes, t: usize, openings: &[impl AsRef<[Opening]>]) -> Vec<u8> {
     let openings: Vec<&[Opening]> = up_to(openings, MAX_L + 2).iter().map(AsRef::as_ref).collect();
     let fits = |opening: &Opening| opening.path.len() == sizes.depth();
     let all_fit = |of_one: &&[Opening]| of_one.len() == t && of_one.iter().all(fits);

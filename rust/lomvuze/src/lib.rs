@@ -30,7 +30,7 @@
 //! No input makes a call panic. Sizes, counts and lengths that are not permitted, or that do not fit each
 //! other, give [`Refusal::Sizes`], and this answer is the library's own too:
 //!
-//! - Where an item, a witness or an opening does not have the length that the sizes give, its list is lent to
+//! - Where an item, a witness or an opening does not have the length that the sizes give, its list is passed to
 //!   the library as an empty buffer, which check 2 refuses. So no number is taken for its neighbour: an item
 //!   with one number too many in r and one too few in x is refused.
 //! - No long buffer is made, whatever the sizes say and however much is passed. What the library is to write
