@@ -10,7 +10,7 @@ use lib.Seq.{length-take-le, drop-drop, drop-at}
 use Rattle.algebra.specs.Lists.{concatTo}
 use Rattle.tree.specs.Layout.{part}
 use Rattle.tree.proofs.Written.{put-back, put-length, copied-over}
-use Rattle.theory.proofs.Parts.{length-part, part-left, part-right, part-whole, part-within}
+use Rattle.theory.proofs.Parts.{length-part, part-cut, part-left, part-right, part-whole, part-within}
 use Rattle.chain.specs.Parts.{replaced, Filled}
 
 -- Where part i + 1 starts.
@@ -36,11 +36,7 @@ from-parts (suc n) size f s e h =
         let start : size + j * size ≡ suc j * size = omega (arith, suc-mul j size) in
         ap (take size) (drop-drop (j * size) size s ∙ ap (λ (k : ℕ). drop k s) start) ∙ h (suc j) (omega arith)
 
--- ---- a part that is lent and comes back
-
--- The part of n bytes that is lent.
-pub borrowed-part : (s : List ℕ) (at n : ℕ) → take (at + n - at) (drop at s) ≡ part s at n
-borrowed-part s at n = let size : at + n - at ≡ n = omega arith in ap (λ (j : ℕ). take j (drop at s)) size
+-- ---- a part that is borrowed and comes back
 
 -- What comes back stands in its place.
 pub borrowed-back : (s d x : List ℕ) (at n : ℕ) → x ≡ d → take at s ++ (x ++ drop (at + n - at) (drop at s)) ≡ replaced s at n d
@@ -57,11 +53,11 @@ borrowed-length s x at n h e =
       length-take-le at s (omega arith),
       length-drop (at + n - at) (drop at s),
       length-drop at s,
-      ap length (borrowed-part s at n),
+      ap length (part-cut s at n),
       length-part s at n h,
     )
 
--- A lent part that is copied over another of the same size.
+-- A part that is copied over another of the same size.
 module _ (from to : List ℕ) (start at n : ℕ) (h : start + n ≤ length from) (g : at + n ≤ length to) where
   abbrev source : List ℕ
   source = take (start + n - start) (drop start from)
@@ -71,8 +67,8 @@ module _ (from to : List ℕ) (start at n : ℕ) (h : start + n ≤ length from)
 
   pub part-copied : take (length source) source ++ drop (length source) target ≡ part from start n
   part-copied =
-      copied-over source target (omega (arith, ap length (borrowed-part to at n), ap length (borrowed-part from start n), length-part to at n g, length-part from start n h))
-      ∙ borrowed-part from start n
+      copied-over source target (omega (arith, ap length (part-cut to at n), ap length (part-cut from start n), length-part to at n g, length-part from start n h))
+      ∙ part-cut from start n
 
 -- ---- the parts of a buffer, one after the other
 

@@ -13,7 +13,7 @@ use Rattle.code.specs.Points.{isWitnessCount, depth}
 use Rattle.theory.specs.Sizes.{itemCountFits, hasLength}
 use Rattle.theory.specs.Calls.{fold as foldOver}
 use Rattle.theory.specs.Fp.{fp, listFits, foldOutputsFit, fold}
-use Rattle.theory.proofs.Passed.{ListFits, list-fits, FoldPasses, fold-passes}
+use Rattle.theory.proofs.Passed.{list-fits, fold-passes}
 use Rattle.theory.proofs.HonestList.{few-items}
 use Rattle.encoder.proofs.OpeningLaws.{depth-few}
 use Rattle.chain.specs.Chained.{openedSize, openedFits}

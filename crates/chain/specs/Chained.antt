@@ -1,19 +1,17 @@
 -- The chain of calls of the first statement (paper 01, "The words of demand 3") in lent buffers: what it answers, and what each
 -- buffer then holds. The buffer `opened` has a part for the openings of each witness, the new one's last; the buffer `openings`
 -- takes them position by position and, within one, item by item.
-use mathlib.Core.Path.{_≡_}
 use mathlib.Core.Bool.{Bool, true, false, _&&_}
 use mathlib.Core.List.{List, [], _∷_, _++_}
 use Prim.Native.Nat.{ℕ, suc, _*_}
-use lib.ListN.{length, getD}
+use lib.ListN.{getD}
 use Rattle.algebra.specs.Lists.{build, concatTo}
 use Rattle.tree.specs.Layout.{part, openingSize}
 use Rattle.code.specs.Points.{isWitnessCount, depth}
-use Rattle.theory.specs.Combination.{quotientSize}
 use Rattle.theory.specs.Checks.{written}
 use Rattle.theory.specs.Sizes.{itemCountFits, hasLength}
 use Rattle.theory.specs.Calls.{Folded, Opened}
-use Rattle.theory.specs.Fp.{itemSize, witnessPart, inOrder, «open», folding, opening, chainAnswers}
+use Rattle.theory.specs.Fp.{witnessPart, inOrder, «open», folding, opening, chainAnswers}
 use Rattle.chain.specs.Answers.{firstRefusal}
 
 -- The bytes of the openings of one witness at t positions, and part i of the buffer `opened`.

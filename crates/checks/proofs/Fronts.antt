@@ -6,7 +6,7 @@ use native.Mathlib.Omega.{arith}
 use lib.ListN.{length, take, drop, length-append, length-drop}
 use lib.Seq.{take-at, length-take-le}
 
--- The front of an array has the length that is lent.
+-- The front of an array has the length that is asked for.
 pub front-length : (n : ℕ) (z : List ℕ) → n ≤ length z → n ≡ length (take n z)
 front-length n z h = sym (length-take-le n z h)
 

@@ -1,11 +1,11 @@
 -- The checks of a list as the code has them: an item's size and front are numbers that were worked out before.
 use mathlib.Core.Path.{_≡_, sym, ap, ap₂, _∙_}
-use mathlib.Core.Bool.{Bool, true}
+use mathlib.Core.Bool.{true}
 use mathlib.Core.List.{List, _++_}
 use Prim.Native.Nat.{ℕ, _+_, _*_, _≤_}
 use native.Mathlib.Omega.{arith}
 use lib.Dec.{ltb}
-use lib.ListN.{length, drop}
+use lib.ListN.{length}
 use Rattle.numbers.specs.Equality.{sameBytes}
 use Rattle.field.specs.BabyBear.{p}
 use Rattle.tree.specs.Layout.{part}
@@ -15,7 +15,9 @@ use Rattle.theory.specs.Buffers.{numberAt}
 use Rattle.theory.specs.Sizes.{elementsBelow, circuitInOrder}
 use Rattle.theory.specs.Fp.{fp, witnessRoot, circuit, itemFront, itemSize, readItem, readWitness, itemBelow, itemsBelow, matches, holds, listChecks, allMatch, allHold}
 use Rattle.theory.proofs.CheckLaws.{group-refused, group-passed}
+use Rattle.theory.proofs.Parts.{part-part}
 use Rattle.theory.proofs.Passed.{list-passes, list-below, passed-list}
+use Rattle.checks.proofs.Laws.{every-cong}
 use Rattle.checks.proofs.Members.{every-read}
 use Rattle.checks.proofs.WitnessLaws.{count-few}
 
@@ -36,9 +38,10 @@ items-below-read m n l items e = ap (λ (s : ℕ). every l (λ i. itemBelow m n 
 module _ (m n k l : ℕ) (a b c items wits : List ℕ) {size : ℕ} (e : size ≡ itemSize m n) where
   -- Checks 10 and 11.
   pub all-match-read : {front : ℕ} → front ≡ itemFront m n
-      → every l (λ i. sameBytes (drop front (part items (i * size) size)) (witnessRoot k (readWitness k wits i))) ≡ allMatch m n k l items wits
+      → every l (λ i. sameBytes (part items (i * size + front) 32) (witnessRoot k (readWitness k wits i))) ≡ allMatch m n k l items wits
   all-match-read h =
-      ap₂ (λ (f s : ℕ). every l (λ i. sameBytes (drop f (part items (i * s) s)) (witnessRoot k (readWitness k wits i)))) h e
+      ap₂ (λ (f s : ℕ). every l (λ i. sameBytes (part items (i * s + f) 32) (witnessRoot k (readWitness k wits i)))) h e
+      ∙ every-cong l _ _ (λ i _. ap (λ (root : List ℕ). sameBytes root (witnessRoot k (readWitness k wits i))) (sym (part-part items (i * itemSize m n) (itemSize m n) (itemFront m n) 32 (omega arith))))
       ∙ every-read (matches k) m n k l items wits
 
   pub all-hold-read : every l (λ i. holds (circuit a b c) (readItem m n (part items (i * size) size)) (readWitness k wits i)) ≡ allHold m n k l a b c items wits
@@ -53,7 +56,7 @@ module _ (m n k l : ℕ) (a b c items wits : List ℕ) {size : ℕ} (e : size �
     items-long = few .3 ∙ ap (λ (s : ℕ). l * s) (sym e)
 
     pub match-asked : {front : ℕ} → front ≡ itemFront m n
-        → (isWitnessCount k ≡ true) × (front ≤ size) × (length items ≡ l * size) × (length wits ≡ l * (4 * k)) × (elementsBelow wits ≡ true)
+        → (isWitnessCount k ≡ true) × (front + 32 ≤ size) × (length items ≡ l * size) × (length wits ≡ l * (4 * k)) × (elementsBelow wits ≡ true)
     match-asked h =
         let t = list-below fp m n k l a b c items wits (list-passes fp m n k l a b c items wits passed) in
         (few .2, omega arith, items-long, few .4, t .wits-below)

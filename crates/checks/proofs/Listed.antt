@@ -58,9 +58,9 @@ listed m n k l a b c items wits e =
       wits-size = eqb-true (length wits) (l * (4 * k)) (t .wits-fit);
     }
 
--- Its lengths are small numbers.
-pub items-few : (m n l : ℕ) → m ≤ 6 → n ≤ 64 → l ≤ 8 → l * itemSize m n ≤ 2528
-items-few m n l hm hn hl = mul-le-mul {n₁ = l} {m₁ = itemSize m n} {n₂ = 8} {m₂ = 316} hl (omega arith)
+-- Its lengths are small numbers: an item has less than 1,024 bytes.
+pub items-few : (m n l : ℕ) → m ≤ 6 → n ≤ 64 → l ≤ 8 → l * itemSize m n ≤ 8192
+items-few m n l hm hn hl = mul-le-mul {n₁ = l} {m₁ = itemSize m n} {n₂ = 8} {m₂ = 1024} hl (omega arith)
 
 pub wits-few : (k l : ℕ) → k ≤ 64 → l ≤ 8 → l * (4 * k) ≤ 2048
 wits-few k l hk hl = mul-le-mul {n₁ = l} {m₁ = 4 * k} {n₂ = 8} {m₂ = 256} hl (omega arith)

@@ -1,23 +1,21 @@
 -- Members of one size that lie one after the other in a buffer: a member cut out at the place where it starts.
-use mathlib.Core.Path.{_≡_, sym, ap, ap₂, _∙_}
+use mathlib.Core.Path.{_≡_, sym, ap, _∙_}
 use mathlib.Core.Bool.{Bool, true}
 use mathlib.Core.List.{List}
 use Prim.Native.Nat.{ℕ, _+_, _-_, _*_, _≤_, _<_}
 use native.Mathlib.Nat.{suc-mul}
 use native.Mathlib.Numerals.{add-one}
 use native.Mathlib.Omega.{arith}
-use lib.ListN.{length, take, drop}
-use lib.Seq.{drop-drop}
+use lib.ListN.{length}
 use Rattle.field.specs.BabyBear.{babyBear, F}
 use Rattle.tree.specs.Layout.{part}
-use Rattle.tree.proofs.Blocks.{drop-take}
 use Rattle.theory.specs.Checks.{every}
 use Rattle.theory.specs.Items.{Item}
 use Rattle.theory.specs.Combination.{itemAt}
 use Rattle.theory.specs.Sizes.{elementsBelow}
 use Rattle.theory.specs.Fp.{fp, itemPart, readItem, readItems, readWitness}
 use Rattle.theory.proofs.CheckLaws.{every-true}
-use Rattle.theory.proofs.Parts.{length-part, part-within}
+use Rattle.theory.proofs.Parts.{length-part, part-cut, part-within}
 use Rattle.theory.proofs.ElementBytes.{witness-below}
 use Rattle.theory.proofs.FpLaws.{fp-laws}
 use Rattle.theory.proofs.Reading.{itemAt-readItems}
@@ -29,12 +27,12 @@ pub record Member (s n i at : ℕ) (xs : List ℕ) : Type 0 where
   pub place : at ≡ i * s
   pub long : length xs ≡ n * s
 
--- The bytes from a start to the end of the member there, as the code cuts them out.
+-- The s bytes from a start on, as the code cuts them out.
 abbrev pub cut : List ℕ → ℕ → ℕ → List ℕ
 cut xs at s = part xs at (at + s - at)
 
-pub cut-whole : {at : ℕ} (xs : List ℕ) (s i : ℕ) → at ≡ i * s → cut xs at s ≡ part xs (i * s) s
-cut-whole {at} xs s i e = let w : at + s - at ≡ s = omega arith in ap₂ (part xs) e w
+pub cut-at : {at place : ℕ} (xs : List ℕ) (s : ℕ) → at ≡ place → cut xs at s ≡ part xs place s
+cut-at {at} xs s e = part-cut xs at s ∙ ap (λ (j : ℕ). part xs j s) e
 
 -- Member i + 1 starts behind member i.
 pub next-place : {at : ℕ} (s i : ℕ) → at ≡ i * s → at + s ≡ (i + 1) * s
@@ -45,7 +43,7 @@ module _ {s n i at : ℕ} {xs : List ℕ} (h : Member s n i at xs) where
   within = omega (arith, part-within n i s (length xs) (h .inside) (h .long), h .place)
 
   pub cut-member : cut xs at s ≡ part xs (i * s) s
-  cut-member = cut-whole xs s i (h .place)
+  cut-member = cut-at xs s (h .place)
 
   pub cut-length : length (cut xs at s) ≡ s
   cut-length = ap length cut-member ∙ length-part xs (i * s) s (part-within n i s (length xs) (h .inside) (h .long))
@@ -53,16 +51,6 @@ module _ {s n i at : ℕ} {xs : List ℕ} (h : Member s n i at xs) where
   -- What a test says of each member, it says of the one that is cut out.
   pub cut-passes : (test : List ℕ → Bool) → every n (λ j. test (part xs (j * s) s)) ≡ true → test (cut xs at s) ≡ true
   cut-passes test e = ap test cut-member ∙ every-true n (λ j. test (part xs (j * s) s)) e i (h .inside)
-
-  -- The bytes behind the first `front` of the member.
-  pub cut-behind : (front : ℕ) → front ≤ s → part xs (at + front) (at + s - (at + front)) ≡ drop front (part xs (i * s) s)
-  cut-behind front l =
-      let left : at + s - (at + front) ≡ s - front = omega arith in
-      let whole : front + (s - front) ≡ s = omega arith in
-      ap₂ (λ (b size : ℕ). part xs (b + front) size) (h .place) left
-      ∙ ap (take (s - front)) (sym (drop-drop front (i * s) xs))
-      ∙ sym (drop-take front (s - front) (drop (i * s) xs))
-      ∙ ap (λ (size : ℕ). drop front (take size (drop (i * s) xs))) whole
 
 -- The numbers of one of the witnesses of k numbers.
 pub wit-below : (k : ℕ) {l i at : ℕ} {wits : List ℕ} → Member (4 * k) l i at wits → elementsBelow wits ≡ true → elementsBelow (cut wits at (4 * k)) ≡ true

@@ -1,8 +1,8 @@
 // Checks 10 and 11: an item matches its witness; an item holds with its witness. Where items lie is said by their size in bytes.
 ghost use mathlib.Core.Path.{_≡_};
 ghost use mathlib.Core.Bool.{true};
-ghost use Prim.Native.Nat.{_*_, _≤_};
-ghost use lib.ListN.{length, drop};
+ghost use Prim.Native.Nat.{_+_, _*_, _≤_};
+ghost use lib.ListN.{length};
 ghost use Rattle.numbers.specs.Equality.{sameBytes};
 ghost use Rattle.field.specs.BabyBear.{R, val};
 ghost use Rattle.tree.specs.Layout.{part};
@@ -12,7 +12,7 @@ ghost use Rattle.theory.specs.Checks.{every};
 ghost use Rattle.theory.specs.Sizes.{elementsBelow, circuitInOrder};
 ghost use Rattle.theory.specs.Fp.{witnessRoot, elements, circuit, itemFront, readItem, readWitness, itemBelow, holds};
 
-// Check 10 for one item, whose root is lent.
+// Check 10 for one item, whose root is given.
 pub fn matches(k: usize, root: &[u8], wit: &[u8]) -> bool
     requires { ⌜ (isWitnessCount k ≡ true) × (length (now wit) ≡ 4 * k) × (elementsBelow (now wit) ≡ true) ⌝ }
     ensures { λ r. ⌜ r ≡ sameBytes (now (root .entry)) (witnessRoot k (elements k (now (wit .entry)))) ⌝ }
@@ -84,10 +84,10 @@ pub fn holds(
     item_value(m, n, k, a, b, c, item, wit) == numbers::get(item, 0)
 }
 
-// Check 10 for each of l items of `size` bytes, whose roots start at byte `front` of theirs.
+// Check 10 for each of l items of `size` bytes, whose roots stand behind the first `front` of them.
 pub fn all_match(k: usize, l: usize, size: usize, front: usize, items: &[u8], wits: &[u8]) -> bool
-    requires { ⌜ (isWitnessCount k ≡ true) × (front ≤ size) × (length (now items) ≡ l * size) × (length (now wits) ≡ l * (4 * k)) × (elementsBelow (now wits) ≡ true) ⌝ }
-    ensures { λ r. ⌜ r ≡ every l (λ i. sameBytes (drop front (part (now (items .entry)) (i * size) size)) (witnessRoot k (readWitness k (now (wits .entry)) i))) ⌝ }
+    requires { ⌜ (isWitnessCount k ≡ true) × (front + 32 ≤ size) × (length (now items) ≡ l * size) × (length (now wits) ≡ l * (4 * k)) × (elementsBelow (now wits) ≡ true) ⌝ }
+    ensures { λ r. ⌜ r ≡ every l (λ i. sameBytes (part (now (items .entry)) (i * size + front) 32) (witnessRoot k (readWitness k (now (wits .entry)) i))) ⌝ }
 {
     let width = 4 * k;
     let mut item = 0;
@@ -95,12 +95,12 @@ pub fn all_match(k: usize, l: usize, size: usize, front: usize, items: &[u8], wi
     let mut i = 0;
     while i < l {
         let root = item + front;
-        let next_item = item + size;
+        let root_end = root + 32;
         let next_wit = wit + width;
-        if !matches(k, &items[root..next_item], &wits[wit..next_wit]) {
+        if !matches(k, &items[root..root_end], &wits[wit..next_wit]) {
             return false;
         }
-        item = next_item;
+        item += size;
         wit = next_wit;
         i += 1;
     }

@@ -32,10 +32,17 @@ fn matrix_below(b: &[u8]) -> bool
     true
 }
 
+// The values of a circuit's entries, list by list: joined by `&` the three loops are slower.
 pub fn circuit_below(a: &[u8], b: &[u8], c: &[u8]) -> bool
     ensures { λ r. ⌜ r ≡ circuitBelow (now (a .entry)) (now (b .entry)) (now (c .entry)) ⌝ }
 {
-    matrix_below(a) & matrix_below(b) & matrix_below(c)
+    if !matrix_below(a) {
+        return false;
+    }
+    if !matrix_below(b) {
+        return false;
+    }
+    matrix_below(c)
 }
 
 // The first `count` numbers of an item.

@@ -1,4 +1,4 @@
--- The Reed-Solomon code over a commutative ring, at a list of points that is lent.
+-- The Reed-Solomon code over a commutative ring, at a list of points that is a parameter.
 -- Paper 01, "Field, code and tree": the codeword of w holds, at position i, the sum of w_j × (point i)^j for j below k.
 -- k is the length of w.
 -- Assumes nothing.

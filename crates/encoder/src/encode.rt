@@ -32,7 +32,7 @@ fn verdict(k: u32, w: &[u8], code: &[u8], root: &[u8]) -> u32
     0
 }
 
-// Writes the codeword and the root; values is lent for the codeword's numbers.
+// Writes the codeword and the root; values is scratch space for the codeword's numbers.
 fn write_in(k: usize, w: &[u8], values: &mut [u32], code: &mut [u8], root: &mut [u8])
     requires { ⌜ (isWitnessCount k ≡ true) × (length (now w) ≡ 4 * k) × (elementsBelow (now w) ≡ true) × (length (now values) ≡ 4 * k) × (length (now code) ≡ 4 * (4 * k)) × (length (now root) ≡ 32) ⌝ }
     ensures { λ _. ⌜ now (code .exit) ≡ elementBytes (codewordOf k (elements k (now (w .entry)))) ⌝ }

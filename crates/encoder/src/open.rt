@@ -42,7 +42,7 @@ fn verdict(k: u32, t: u32, w: &[u8], positions: &[u8], openings: &[u8]) -> u32
     0
 }
 
-// Writes the openings; values is lent for the codeword's numbers.
+// Writes the openings; values is scratch space for the codeword's numbers.
 fn write_in(k: usize, t: usize, w: &[u8], positions: &[u8], values: &mut [u32], openings: &mut [u8])
     requires { ⌜ (isWitnessCount k ≡ true) × (length (now w) ≡ 4 * k) × (elementsBelow (now w) ≡ true) × (length (now positions) ≡ 4 * t) × (positionsBelow k (now positions) ≡ true) × (length (now values) ≡ 4 * k) × (length (now openings) ≡ t * openingSize (depth k)) ⌝ }
     ensures { λ _. ⌜ now (openings .exit) ≡ openingsOf k t (elements k (now (w .entry))) (numbers (now (positions .entry))) ⌝ }

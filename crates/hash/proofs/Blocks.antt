@@ -8,7 +8,7 @@ use native.Mathlib.Nat.{add-zero, add-suc}
 use native.Mathlib.Omega.{arith}
 use lib.ListN.{length, getD, drop, length-drop, List·getD-append}
 use lib.Seq.{getD-drop}
-use Rattle.hash.specs.Sha256.{H₀, word, padding, pad, words, compress, hash, bytes, digest}
+use Rattle.hash.specs.Sha256.{H₀, padding, pad, words, compress, hash, bytes, digest}
 use Rattle.hash.proofs.Fill.{upTo-ext}
 use Rattle.hash.proofs.Pad.{length-pad}
 

@@ -12,7 +12,6 @@ use Rattle.lines.specs.declared.number.Number.the-variants.{Value, Bad}
 use Rattle.lines.specs.declared.root.Root.{Root}
 use Rattle.lines.specs.Text.{decimal, isNumber, isRoot, hexBytes}
 use Rattle.lines.specs.Cursor.{fieldAt, fieldEnd, numberAt, numberBeforeTab, rootAt}
-use Rattle.numbers.proofs.Tests.{and-right}
 use Rattle.lines.proofs.FieldEnds.{tab-within, is-tab}
 
 differ : (x y : ℕ) → Bad ≡ Value x y → ⊥

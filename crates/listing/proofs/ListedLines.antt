@@ -14,7 +14,7 @@ use Rattle.tree.specs.Layout.{part}
 use Rattle.theory.specs.R1cs.{value}
 use Rattle.theory.specs.Buffers.{numberAt}
 use Rattle.theory.specs.Fp.{elements, circuit, itemSize, itemPart, readItem}
-use Rattle.checks.proofs.Members.{cut, cut-whole}
+use Rattle.checks.proofs.Members.{cut, cut-at}
 use Rattle.lines.proofs.AppendLaws.{placed-none}
 use Rattle.lines.specs.LineWriting.{writeNumber, writeFields, writeLine}
 use Rattle.listing.specs.Listing.{claimE, claimValue, verdictWord, claimLine, claimLines, claimsHead}
@@ -99,7 +99,7 @@ module _ (m n k : ℕ) (a b c items wits : List ℕ) where
   -- The value and the e of an item and a witness that are cut out of the buffers.
   module _ (i item wit : ℕ) {size : ℕ} (sized : size ≡ itemSize m n) (at-item : item ≡ i * size) (at-wit : wit ≡ i * (4 * k)) where
     item-at : cut items item size ≡ itemPart m n items i
-    item-at = cut-whole items size i at-item ∙ ap (λ (s : ℕ). part items (i * s) s) sized
+    item-at = cut-at items size at-item ∙ ap (λ (s : ℕ). part items (i * s) s) sized
 
     value-at : {v : ℕ}
         → v ≡ val (value R (circuit a b c) (readItem m n (cut items item size) .r) (readItem m n (cut items item size) .x) (elements k (cut wits wit (4 * k))))
@@ -109,7 +109,7 @@ module _ (m n k : ℕ) (a b c items wits : List ℕ) where
         h
         ∙ ap₂ (λ (xs ys : List ℕ). val (value R (circuit a b c) (readItem m n xs .r) (readItem m n xs .x) (elements k ys)))
         item-at
-        (cut-whole wits (4 * k) i at-wit)
+        (cut-at wits (4 * k) at-wit)
 
     e-at : {e : ℕ} → e ≡ numberAt (cut items item size) 0 → e ≡ claimE m n k a b c items wits i
     e-at h = h ∙ ap (λ (xs : List ℕ). numberAt xs 0) item-at

@@ -12,7 +12,6 @@ use Rattle.numbers.proofs.Tests.{and-left, and-right, _&_}
 use Rattle.theory.specs.Checks.{answer, written}
 use Rattle.theory.specs.Sizes.{hasLength, elementsBelow, circuitBelow, circuitInOrder}
 use Rattle.theory.specs.Fp.{itemSize, itemsBelow}
-use Rattle.numbers.proofs.Tests.{and-left, and-right, _&_}
 use Rattle.theory.proofs.CheckLaws.{written-accepted}
 use Rattle.lines.specs.declared.keyword.Keyword.the-variants.{EntryA, EntryB, EntryC, Item, Wit}
 use Rattle.lines.specs.Lines.{Line}

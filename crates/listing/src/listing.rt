@@ -59,12 +59,13 @@ fn put_refusal(out: &mut [u8], at: usize, answer: u32) -> usize
     text::put(out, end, b"\n")
 }
 
-// Puts the line of each item.
+// Puts the line of each item; an item has `size` bytes.
 fn put_claims(
     m: usize,
     n: usize,
     k: usize,
     pairs: usize,
+    size: usize,
     a: &[u8],
     b: &[u8],
     c: &[u8],
@@ -73,12 +74,11 @@ fn put_claims(
     out: &mut [u8],
     at: usize,
 ) -> usize
-    requires { ⌜ (m ≤ 6) × (n ≤ 64) × (k ≤ 64) × (pairs ≤ 64) × (length (now items) ≡ pairs * itemSize m n) × (length (now wits) ≡ pairs * (4 * k)) ⌝ }
+    requires { ⌜ (m ≤ 6) × (n ≤ 64) × (k ≤ 64) × (pairs ≤ 64) × (length (now items) ≡ pairs * size) × (length (now wits) ≡ pairs * (4 * k)) × (size ≡ itemSize m n) ⌝ }
     requires { ⌜ (itemsBelow m n pairs (now items) ≡ true) × (circuitInOrder m n k (now a) (now b) (now c) ≡ true) × (at + 33 * pairs ≤ length (now out)) × (length (now out) ≤ 65536) ⌝ }
     ensures end { λ r. ⌜ r ≡ at + length (claimLines m n k (now (a .entry)) (now (b .entry)) (now (c .entry)) (now (items .entry)) (now (wits .entry)) pairs) ⌝ }
     ensures out { λ _. ⌜ now (out .exit) ≡ placed at (claimLines m n k (now (a .entry)) (now (b .entry)) (now (c .entry)) (now (items .entry)) (now (wits .entry)) pairs) (now (out .entry)) ⌝ }
 {
-    let size = checks::item::size(m, n);
     let width = 4 * k;
     let mut item = 0;
     let mut wit = 0;
@@ -130,7 +130,8 @@ fn put_listing(
     let a_end = 12 * (r.a as usize);
     let b_end = 12 * (r.b as usize);
     let c_end = 12 * (r.c as usize);
-    let items_end = pairs * (4 + 4 * m + 4 * n + 32);
+    let size = checks::item::size(m, n);
+    let items_end = pairs * size;
     let wits_end = pairs * (4 * k);
     let at = put_head(out, 0, r.pairs);
     put_claims(
@@ -138,6 +139,7 @@ fn put_listing(
         n,
         k,
         pairs,
+        size,
         &a[..a_end],
         &b[..b_end],
         &c[..c_end],

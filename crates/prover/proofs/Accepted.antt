@@ -14,7 +14,7 @@ use Rattle.theory.specs.Checks.{answer}
 use Rattle.theory.specs.Combination.{quotientSize}
 use Rattle.theory.specs.Sizes.{hasLength, circuitInOrder}
 use Rattle.theory.specs.Fp.{fp, itemSize, listFits, quotientFits, quotientChecks, foldOutputsFit, foldFits, foldChecks}
-use Rattle.theory.proofs.Passed.{QuotientPasses, quotient-passes, FoldPasses, fold-passes}
+use Rattle.theory.proofs.Passed.{quotient-passes, fold-passes}
 use Rattle.fold.specs.Fits.{Fits}
 use Rattle.checks.proofs.ClaimLaws.{inside-a, inside-b, inside-c}
 use Rattle.checks.proofs.Listed.{listed}

@@ -8,7 +8,6 @@ use lib.ListN.{length}
 use Rattle.numbers.specs.Numbers.{bytes}
 use Rattle.numbers.proofs.Tests.{_&_}
 use Rattle.theory.specs.R1cs.{Entry}
-use Rattle.numbers.proofs.Tests.{_&_}
 use Rattle.lines.specs.declared.keyword.Keyword.{Keyword}
 use Rattle.lines.specs.declared.keyword.Keyword.the-variants.{Size, EntryA, EntryB, EntryC, Item, Wit, End}
 use Rattle.lines.specs.Lines.{Line}

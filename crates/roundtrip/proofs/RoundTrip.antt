@@ -12,7 +12,6 @@ use Rattle.numbers.proofs.Tests.{_&_, each-true}
 use Rattle.theory.specs.Checks.{answer, written}
 use Rattle.theory.specs.Sizes.{sizes}
 use Rattle.theory.specs.R1cs.{Entry}
-use Rattle.numbers.proofs.Tests.{_&_, each-true}
 use Rattle.theory.proofs.CheckLaws.{Passed, answer-passed, passed-answer}
 use Rattle.lines.specs.declared.keyword.Keyword.{Keyword}
 use Rattle.lines.specs.declared.keyword.Keyword.the-variants.{EntryA, EntryB, EntryC, Item, Wit, End}

@@ -10,7 +10,6 @@ use Rattle.algebra.specs.Lists.{All}
 use Rattle.numbers.proofs.Tests.{and-left, and-right}
 use Rattle.theory.specs.Checks.{answer, written}
 use Rattle.theory.specs.Fp.{itemSize}
-use Rattle.numbers.proofs.Tests.{and-left, and-right}
 use Rattle.theory.proofs.CheckLaws.{Passed, answer-passed}
 use Rattle.checks.proofs.Calls as answers
 use Rattle.lines.specs.declared.keyword.Keyword.the-variants.{EntryA, EntryB, EntryC, Item, Wit}

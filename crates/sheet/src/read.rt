@@ -51,7 +51,7 @@ fn write(
     ensures wits { λ _. ⌜ now (wits .exit) ≡ filled (take (4 * (r .pairs * r .k)) (now («scratch_wits» .entry))) (now (wits .entry)) ⌝ }
 {
     let pairs = r.pairs as usize;
-    let item = 4 + 4 * (r.m as usize) + 4 * (r.n as usize) + 32;
+    let item = checks::item::size(r.m as usize, r.n as usize);
     fill(scratch_a, 12 * (r.a as usize), a);
     fill(scratch_b, 12 * (r.b as usize), b);
     fill(scratch_c, 12 * (r.c as usize), c);

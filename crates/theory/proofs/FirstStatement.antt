@@ -1,7 +1,7 @@
 -- The first statement of demand 3: for an honest list, a permitted challenge and permitted positions, every call of the chain answers 0.
 use mathlib.Core.Path.{_≡_, sym, ap, ap₂, _∙_}
 use mathlib.Core.Bool.{true}
-use mathlib.Core.List.{List, []}
+use mathlib.Core.List.{List}
 use Prim.Native.Nat.{ℕ, suc}
 use borrow.Author.Tests.{eq-eqb}
 use lib.ListN.{length}

@@ -5,7 +5,7 @@ use mathlib.Core.List.{List, _∷_, _++_}
 use Prim.Native.Nat.{ℕ, suc, _+_, _<_}
 use native.Mathlib.Omega.{arith}
 use lib.ListN.{length, getD, length-append, List·getD-append}
-use lib.Seq.{drop-at, getD-append-add}
+use lib.Seq.{getD-append-add}
 use Rattle.algebra.specs.Ring.{CommRing}
 use Rattle.algebra.proofs.ListLaws.{build-cong, build-getD}
 use Rattle.theory.specs.Items.{Item}
@@ -15,6 +15,7 @@ use Rattle.theory.specs.Sizes.{itemBelow}
 use Rattle.theory.proofs.CheckLaws.{true-every}
 use Rattle.theory.proofs.InstanceLaws.{InstanceLaws}
 use Rattle.theory.proofs.ElementBytes.{length-written, size-add}
+use Rattle.theory.proofs.Parts.{part-right, part-whole}
 
 -- An item has the sizes m and n, and a root of 32 bytes.
 pub record Fits {K : Type 0} (m n : ℕ) (item : Item K) : Type 0 where
@@ -61,7 +62,7 @@ module _ (I : Instance) (laws : InstanceLaws I) where
       e = element 0 (omega arith) i;
       r = (build-cong m (λ j. E .at (itemBytes I item) (1 + j)) (λ j. getD (item .r) j 𝟘) read-r ∙ build-getD (item .r) m 𝟘 (fits .r-size)) i;
       x = (build-cong n (λ j. E .at (itemBytes I item) (1 + m + j)) (λ j. getD (item .x) j 𝟘) read-x ∙ build-getD (item .x) n 𝟘 (fits .x-size)) i;
-      root = drop-at (E .bytesOf es) (item .root) (itemFront I m n) front-size i;
+      root = (part-right (E .bytesOf es) (item .root) (itemFront I m n) 0 32 (omega (arith, front-size)) ∙ part-whole (item .root) 32 (fits .root-size)) i;
     }
 
     pub item-below : itemBelow I m n (itemBytes I item) ≡ true

@@ -13,6 +13,10 @@ use Rattle.tree.proofs.Blocks.{drop-take}
 pub length-part : (s : List ℕ) (at n : ℕ) → at + n ≤ length s → length (part s at n) ≡ n
 length-part s at n h = simp (length-take, length-drop) (omega arith)
 
+-- A part as code cuts it out, from its start to its end.
+pub part-cut : (s : List ℕ) (at n : ℕ) → part s at (at + n - at) ≡ part s at n
+part-cut s at n = let size : at + n - at ≡ n = omega arith in ap (part s at) size
+
 -- The whole buffer is a part of it.
 pub part-whole : (s : List ℕ) (n : ℕ) → length s ≡ n → part s 0 n ≡ s
 part-whole s n e = take-all n s (omega arith)

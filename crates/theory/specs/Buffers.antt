@@ -2,7 +2,7 @@
 -- the members of a list lie one after the other. `part s at n` is the n bytes of s from byte `at` on.
 use mathlib.Core.List.{List, [], _∷_, _++_}
 use Prim.Native.Nat.{ℕ, suc, _+_, _*_, _/_}
-use lib.ListN.{length, getD, drop}
+use lib.ListN.{length, getD}
 use Rattle.algebra.specs.Ring.{CommRing}
 use Rattle.algebra.specs.Lists.{build, concatTo}
 use Rattle.numbers.specs.Numbers.{numbers}
@@ -59,7 +59,7 @@ module _ (I : Instance) where
   itemSize m n = itemFront m n + 32
 
   abbrev pub readItem : ℕ → ℕ → List ℕ → Item K
-  readItem m n b = record { e = E .at b 0; r = build m (λ j. E .at b (1 + j)); x = build n (λ j. E .at b (1 + m + j)); root = drop (itemFront m n) b }
+  readItem m n b = record { e = E .at b 0; r = build m (λ j. E .at b (1 + j)); x = build n (λ j. E .at b (1 + m + j)); root = part b (itemFront m n) 32 }
 
   abbrev pub itemBytes : Item K → List ℕ
   itemBytes item = E .bytesOf (item .e ∷ item .r ++ item .x) ++ item .root

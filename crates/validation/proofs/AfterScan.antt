@@ -6,12 +6,11 @@ use Prim.Native.Nat.{ℕ, _*_}
 use native.Mathlib.Omega.{arith}
 use lib.ListN.{length, take}
 use Rattle.theory.specs.Checks.{answer}
-use Rattle.theory.specs.Fp.{itemSize}
+use Rattle.theory.specs.Fp.{itemSize, listChecks}
 use Rattle.lines.specs.declared.keyword.Keyword.the-variants.{EntryA, EntryB, EntryC, Item, Wit}
 use Rattle.validation.specs.declared.reading.Reading.{Reading}
 use Rattle.scan.specs.declared.state.State.{State}
 use Rattle.scan.specs.Sheet.{sheetLines, ordered, m, n, k, pairs, bytesOf, pairsFit}
-use Rattle.theory.specs.Fp.{listChecks}
 use Rattle.validation.specs.SheetChecks.{stateFits, result}
 use Rattle.scan.specs.Scan.{stateAfter}
 use Rattle.validation.specs.Bounds.{CountBounds, BufferLengths}

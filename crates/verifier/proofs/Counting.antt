@@ -43,9 +43,6 @@ module _ {m n k l t : ℕ} (counts : Counts m n k l t) where
   pub depth-few : depth k < 9
   depth-few = depth-most k (counts .k-count)
 
-  pub items-few : {size : ℕ} → size ≡ itemSize m n → l * size ≤ 2528
-  items-few {size} e = product-most l size 8 316 (counts .l-most) (omega (arith, e, counts .m-most, counts .n-most))
-
   pub quotient-few : (l - 1) * (m + 1) ≤ 49
   quotient-few = product-most (l - 1) (m + 1) 7 7 (omega (arith, counts .l-most)) (omega (arith, counts .m-most))
 

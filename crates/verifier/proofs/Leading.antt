@@ -74,13 +74,13 @@ module _ (m n k l t challenge : ℕ) (items positions item openings : List ℕ)
     value-below = ltb-true (openedValue openings place) p (every-true (t * suc l) _ below (q * suc l + i) (row-within q t i (suc l) g h))
 
     -- Where an opening leads.
-    leads-same : length item ≡ itemSize m n → sameBytes (leadsTo babyBear batch sha (code fp k) shown q i) (itemOf babyBear batch shown i .root)
+    leads-same : sameBytes (leadsTo babyBear batch sha (code fp k) shown q i) (itemOf babyBear batch shown i .root)
         ≡ leads (itemSize m n) (itemFront m n) (openingSize (depth k)) l (depth k) items positions item openings q i
     unfolding itemOf
-    leads-same sized = ap₂ sameBytes
+    leads-same = ap₂ sameBytes
         (ap (λ (o : Opening F). openingRoot digest (entry (numberAt positions q) (val (o .value))) (numberAt positions q) (o .siblings)) (openingAt-readShown fp m n k l t challenge items positions item openings q i g h)
         ∙ ap (λ (v : ℕ). openingRoot digest (entry (numberAt positions q) v) (numberAt positions q) (openedPath openings place (depth k))) (val-small value-below))
-        (root-read m n l items item sized i h)
+        (root-read m n l items item i h)
 
     -- The opened value, as a number of the buffer.
     module _ (stride : ℕ) (layout : 4 * stride ≡ openingSize (depth k)) where
@@ -99,18 +99,17 @@ module _ (m n k l t challenge : ℕ) (items positions item openings : List ℕ)
       number-below : number < p
       number-below = rw value-same at value-below
 
-  all-lead : length item ≡ itemSize m n
-      → every t (λ q. every (suc l) (leads (itemSize m n) (itemFront m n) (openingSize (depth k)) l (depth k) items positions item openings q)) ≡ openingsLead k batch shown
-  all-lead sized = sym (ap₂ (λ (a b : ℕ). every a (λ q. every (suc b) (λ i. sameBytes (leadsTo babyBear batch sha (code fp k) shown q i) (itemOf babyBear batch shown i .root)))) position-count item-count
-      ∙ every-cong t _ _ (λ q g. every-cong (suc l) _ _ (λ i h. leads-same q i g h sized)))
+  all-lead : every t (λ q. every (suc l) (leads (itemSize m n) (itemFront m n) (openingSize (depth k)) l (depth k) items positions item openings q)) ≡ openingsLead k batch shown
+  all-lead = sym (ap₂ (λ (a b : ℕ). every a (λ q. every (suc b) (λ i. sameBytes (leadsTo babyBear batch sha (code fp k) shown q i) (itemOf babyBear batch shown i .root)))) position-count item-count
+      ∙ every-cong t _ _ (λ q g. every-cong (suc l) _ _ (λ i h. leads-same q i g h)))
 
-  pub openings-lead : {size front opening d : ℕ} {r : Bool} → length item ≡ itemSize m n → size ≡ itemSize m n → front ≡ itemFront m n → opening ≡ openingSize d → d ≡ depth k
+  pub openings-lead : {size front opening d : ℕ} {r : Bool} → size ≡ itemSize m n → front ≡ itemFront m n → opening ≡ openingSize d → d ≡ depth k
       → r ≡ every t (λ q. every (suc l) (leads size front opening l d items positions item openings q)) → r ≡ openingsLead k batch shown
-  openings-lead {size} {front} {opening} {d} sized es ef eo ed h =
+  openings-lead {size} {front} {opening} {d} es ef eo ed h =
       h
       ∙ ap₂ (λ (s f : ℕ). every t (λ q. every (suc l) (leads s f opening l d items positions item openings q))) es ef
       ∙ ap₂ (λ (o d : ℕ). every t (λ q. every (suc l) (leads (itemSize m n) (itemFront m n) o l d items positions item openings q))) (eo ∙ ap openingSize ed) ed
-      ∙ all-lead sized
+      ∙ all-lead
 
   module _ {weights : List ℕ} (w : weights ≡ lagrangeAt l challenge) (stride : ℕ) (layout : 4 * stride ≡ openingSize (depth k)) where
     -- The combination of the items' opened values at position q.

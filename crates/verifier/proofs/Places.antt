@@ -7,19 +7,18 @@ use native.Mathlib.Nat.{suc-mul, add-mul, mul-left-comm}
 use native.Mathlib.Numerals.{add-one}
 use native.Mathlib.Omega.{arith}
 use lib.ListN.{length, getD, take, drop, length-drop, List·getD-append}
-use lib.Seq.{drop-drop, take-all, getD-take, getD-drop, getD-append-seam}
+use lib.Seq.{getD-take, getD-drop, getD-append-seam}
 use Rattle.algebra.specs.Lists.{build}
 use Rattle.algebra.proofs.ListLaws.{length-build, getD-build}
 use Rattle.numbers.specs.Numbers.{numbers}
 use Rattle.numbers.proofs.Bytes.{numbers-take, numbers-drop}
 use Rattle.field.specs.BabyBear.{babyBear, F}
 use Rattle.tree.specs.Layout.{part, openedValue}
-use Rattle.tree.proofs.Blocks.{drop-take}
 use Rattle.theory.specs.Items.{Item}
 use Rattle.theory.specs.Combination.{itemAt, blank}
 use Rattle.theory.specs.Buffers.{numberAt}
 use Rattle.theory.specs.Fp.{fp, itemFront, itemSize, readItem, readItems}
-use Rattle.theory.proofs.Parts.{part-within}
+use Rattle.theory.proofs.Parts.{part-part, part-within}
 use Rattle.theory.proofs.Reading.{length-readItems, itemAt-readItems, row-within}
 use Rattle.verifier.specs.Verifying.{rootAt}
 
@@ -40,7 +39,7 @@ module _ (size front l : ℕ) (items item : List ℕ) where
   root-inside i h f s = omega (arith, part-within l i size (length items) h s)
 
 -- The roots of the items that the buffers are read as.
-module _ (m n l : ℕ) (items item : List ℕ) (sized : length item ≡ itemSize m n) where
+module _ (m n l : ℕ) (items item : List ℕ) where
   abbrev all : List (Item F)
   all = readItems m n l items ++ (readItem m n item ∷ [])
 
@@ -51,14 +50,12 @@ module _ (m n l : ℕ) (items item : List ℕ) (sized : length item ≡ itemSize
       go : Dec (i < l) → itemAt babyBear all i .root ≡ rootAt (itemSize m n) (itemFront m n) l items item i
       go (yes g) = item-root (itemSize m n) (itemFront m n) l items item i g (
           ap (λ (t : Item F). t .root) (List·getD-append (readItems m n l items) (readItem m n item ∷ []) (blank babyBear) i (omega (arith, length-readItems fp m n l items)) ∙ itemAt-readItems fp m n l items i g)
-          ∙ drop-take (itemFront m n) 32 (drop (i * itemSize m n) items)
-          ∙ ap (take 32) (drop-drop (itemFront m n) (i * itemSize m n) items))
+          ∙ part-part items (i * itemSize m n) (itemSize m n) (itemFront m n) 32 (omega arith))
       go (no g) =
           let e : i ≡ l = omega arith in
           new-root (itemSize m n) (itemFront m n) l items item i e (
           ap (λ (j : ℕ). itemAt babyBear all j .root) (e ∙ sym (length-readItems fp m n l items))
-          ∙ ap (λ (t : Item F). t .root) (getD-append-seam (readItems m n l items) (readItem m n item) [] (blank babyBear))
-          ∙ sym (take-all 32 (drop (itemFront m n) item) (omega (arith, sized, length-drop (itemFront m n) item))))
+          ∙ ap (λ (t : Item F). t .root) (getD-append-seam (readItems m n l items) (readItem m n item) [] (blank babyBear)))
 
 -- ---- openings of s bytes, position by position and, within one, item by item
 

@@ -1,6 +1,6 @@
 -- `numbers::store` meets its contract. The invariant: the first i numbers are written, and what lies behind them is as it was.
-use mathlib.Core.Path.{_≡_, refl, sym, ap, _∙_}
-use Prim.Native.Nat.{ℕ, _+_, _-_, _*_, _≤_, _<_}
+use mathlib.Core.Path.{_≡_, refl}
+use Prim.Native.Nat.{_+_, _-_, _≤_}
 use native.Mathlib.Omega.{arith}
 use lib.ListN.{length}
 use Rattle.numbers.proofs.Filling.{Filling, filling-none, filling-more, filling-length, filling-all}

@@ -4,7 +4,6 @@ use mathlib.Core.Bool.{Bool, true, _&&_}
 use native.Mathlib.Omega.{arith}
 use Rattle.numbers.proofs.Tests.{and-left}
 use Rattle.theory.specs.Checks.{answer}
-use Rattle.numbers.proofs.Tests.{and-left}
 use Rattle.checks.proofs.Calls.{fails, passes, passed}
 use Rattle.scan.specs.Sheet.{sheetLines, ordered}
 use Rattle.validation.specs.SheetChecks.{keepsRules, countsFit, stateFits, sheetChecks}

@@ -8,12 +8,12 @@ use lib.ListN.{length}
 use Rattle.algebra.specs.Lists.{build}
 use Rattle.theory.specs.Calls.{Opened}
 use Rattle.theory.specs.Fp.{«open»}
-use Rattle.theory.proofs.Parts.{part-within}
+use Rattle.theory.proofs.Parts.{part-cut, part-within}
 use Rattle.chain.specs.Answers.{firstRefusal}
 use Rattle.chain.specs.Parts.{Filled}
 use Rattle.chain.specs.Chained.{openItem}
 use Rattle.chain.proofs.Refusals.{refusal-next}
-use Rattle.chain.proofs.Filling.{borrowed-part, none-filled, still, one-filled}
+use Rattle.chain.proofs.Filling.{none-filled, still, one-filled}
 use Rattle.chain.proofs.opening.open_list.Statement.{statement}
 use Rattle.chain.proofs.opening.open_list.Tie as tie
 
@@ -82,7 +82,7 @@ loop-again c =
     let l = c .before .before .before .before .before .before .before .loop in
     let call = c .before .before .before .open-part in
     let same =
-    ap₂ (λ (w o : List ℕ). «open» (a .k) (a .t) w (a .positions .now) o) (borrowed-part (a .wits .now) (l .i * (4 * a .k)) (4 * a .k))
+    ap₂ (λ (w o : List ℕ). «open» (a .k) (a .t) w (a .positions .now) o) (part-cut (a .wits .now) (l .i * (4 * a .k)) (4 * a .k))
     (still (a .size) (λ j. openItem (a .k) (a .t) (a .size) (a .wits .now) (a .positions .now) (a .opened .now) j .openings) (a .opened .now) (l .i) (l .opened) (l .inv .2)) in (
       omega (arith, c .before .before .before .before .before .before .loop-test .taken),
       refusal-next (l .i) (λ j. openItem (a .k) (a .t) (a .size) (a .wits .now) (a .positions .now) (a .opened .now) j .answer) (l .answer) (call .result) (c .first .result) (l .inv .1)

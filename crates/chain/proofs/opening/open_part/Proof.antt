@@ -3,7 +3,8 @@ use mathlib.Core.Path.{ap, _∙_}
 use mathlib.Core.List.{List}
 use Prim.Native.Nat.{ℕ}
 use Rattle.theory.specs.Fp.{«open»}
-use Rattle.chain.proofs.Filling.{borrowed-part, borrowed-back}
+use Rattle.theory.proofs.Parts.{part-cut}
+use Rattle.chain.proofs.Filling.{borrowed-back}
 use borrow.Author.Needs.{needs}
 use Rattle.chain.proofs.opening.open_part.Statement.{statement}
 use Rattle.chain.proofs.opening.open_part.Tie as tie
@@ -31,7 +32,7 @@ returns c =
     let start = c .before .before .before .before .before .before .before in
     let a = start .args in
     let call = c .before .before .lomvuze-open in
-    let borrowed = borrowed-part (a .opened .now) (a .at) (a .size) in (
+    let borrowed = part-cut (a .opened .now) (a .at) (a .size) in (
       call .ensures .0 ∙ ap (λ (o : List ℕ). «open» (a .k) (a .t) (a .w .now) (a .positions .now) o .answer) borrowed,
       borrowed-back (a .opened .now) _ (call .last .1 .1 .1 .1 .0) (a .at) (a .size)
           (call .ensures .1 ∙ ap (λ (o : List ℕ). «open» (a .k) (a .t) (a .w .now) (a .positions .now) o .openings) borrowed),

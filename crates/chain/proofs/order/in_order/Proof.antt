@@ -5,9 +5,9 @@ use native.Mathlib.Nat.{one-mul, mul-le-mul-right}
 use native.Mathlib.Omega.{arith}
 use lib.ListN.{length}
 use Rattle.algebra.specs.Lists.{concatTo}
-use Rattle.theory.proofs.Parts.{length-part, part-within}
+use Rattle.theory.proofs.Parts.{length-part, part-cut, part-within}
 use Rattle.chain.specs.Parts.{piece, Filled}
-use Rattle.chain.proofs.Filling.{borrowed-part, borrowed-back, borrowed-length, none-filled, one-filled, all-filled}
+use Rattle.chain.proofs.Filling.{borrowed-back, borrowed-length, none-filled, one-filled, all-filled}
 use Rattle.chain.proofs.order.in_order.Statement.{statement}
 use Rattle.chain.proofs.order.in_order.Tie as tie
 
@@ -55,7 +55,7 @@ row-requires c κs =
     let l = c .before .before .loop in (
       start .pre .3,
       part-within (a .t) (l .q) (a .size) _ (c .before .loop-test .taken) refl,
-      ap length (borrowed-part (l .openings) (l .q * (a .count * a .size)) (a .count * a .size))
+      ap length (part-cut (l .openings) (l .q * (a .count * a .size)) (a .count * a .size))
           ∙ length-part (l .openings) (l .q * (a .count * a .size)) (a .count * a .size) (omega (arith, room (c .before), l .inv .1 .same)),
     )
 

@@ -1,24 +1,23 @@
 -- `claims::all_match` meets its contract. The invariant: the first i items match, and the places of item i and of witness i.
-use mathlib.Core.Path.{_≡_, sym, ap₂, _∙_}
+use mathlib.Core.Path.{_≡_, sym, ap, ap₂, _∙_}
 use mathlib.Core.Bool.{Bool, true}
 use mathlib.Core.List.{List}
 use Prim.Native.Nat.{ℕ, _+_, _-_, _*_, _≤_}
 use native.Mathlib.Nat.{zero-mul}
 use native.Mathlib.Omega.{arith}
-use lib.ListN.{drop}
 use Rattle.numbers.specs.Equality.{sameBytes}
 use Rattle.tree.specs.Layout.{part}
 use Rattle.theory.specs.Checks.{every}
 use Rattle.theory.specs.Fp.{witnessRoot, elements, readWitness}
 use Rattle.checks.proofs.Laws.{every-none, every-all, turn-fails, turn-passes}
 use Rattle.checks.proofs.WitnessLaws.{count-few}
-use Rattle.checks.proofs.Members.{Member, cut, within, cut-member, cut-length, cut-behind, next-place, wit-below}
+use Rattle.checks.proofs.Members.{Member, cut, within, cut-at, cut-member, cut-length, next-place, wit-below}
 use Rattle.checks.proofs.claims.all_match.Statement.{statement}
 use Rattle.checks.proofs.claims.all_match.Tie as tie
 
 -- The test of item i.
 abbrev matchAt : ℕ → ℕ → ℕ → List ℕ → List ℕ → ℕ → Bool
-matchAt k size front items wits i = sameBytes (drop front (part items (i * size) size)) (witnessRoot k (readWitness k wits i))
+matchAt k size front items wits i = sameBytes (part items (i * size + front) 32) (witnessRoot k (readWitness k wits i))
 
 abbrev Inv-loop : tie.InvT-loop
 Inv-loop k l size front items wits width item₀ wit₀ i₀ item wit i = (i ≤ l) × (item ≡ i * size) × (wit ≡ i * (4 * k)) × (every i (matchAt k size front items wits) ≡ true)
@@ -34,11 +33,11 @@ wit-at : (c : tie.In-loop Inv-loop μ-loop) → (let a = c .before .before .befo
 wit-at c = record { inside = c .loop-test .taken; place = c .before .loop .inv .2; long = c .before .before .before .before .pre .3 }
 
 same-at : (c : tie.In-loop Inv-loop μ-loop) → (let a = c .before .before .before .before .args in let l = c .before .loop in
-    sameBytes (part (a .items .now) (l .item + a .front) (l .item + a .size - (l .item + a .front))) (witnessRoot (a .k) (elements (a .k) (cut (a .wits .now) (l .wit) (4 * a .k))))
+    sameBytes (cut (a .items .now) (l .item + a .front) 32) (witnessRoot (a .k) (elements (a .k) (cut (a .wits .now) (l .wit) (4 * a .k))))
     ≡ matchAt (a .k) (a .size) (a .front) (a .items .now) (a .wits .now) (l .i))
 same-at c =
     let s = c .before .before .before .before in
-    ap₂ (λ (root wit : List ℕ). sameBytes root (witnessRoot (s .args .k) (elements (s .args .k) wit))) (cut-behind (item-at c) (s .args .front) (s .pre .1)) (cut-member (wit-at c))
+    ap₂ (λ (root wit : List ℕ). sameBytes root (witnessRoot (s .args .k) (elements (s .args .k) wit))) (cut-at (s .args .items .now) 32 (ap (λ (at : ℕ). at + s .args .front) (item-at c .place))) (cut-member (wit-at c))
 
 mul-width : tie.Need-mul-width Inv-loop μ-loop
 mul-width c = let s = c .before .before in omega (arith, count-few (s .args .k) (s .pre .0))
@@ -49,8 +48,8 @@ loop-holds c = (omega arith, sym (zero-mul _), sym (zero-mul _), every-none _)
 add-root : tie.Need-add-root Inv-loop μ-loop
 add-root c = let h = within (item-at c) in omega (arith, c .before .before .before .before .good)
 
-add-next-item : tie.Need-add-next-item Inv-loop μ-loop
-add-next-item c = let h = within (item-at c) in omega (arith, c .before .before .before .before .good)
+add-root-end : tie.Need-add-root-end Inv-loop μ-loop
+add-root-end c = let h = within (item-at c) in omega (arith, c .before .before .before .before .good)
 
 add-next-wit : tie.Need-add-next-wit Inv-loop μ-loop
 add-next-wit c = let h = within (wit-at c) in omega (arith, c .before .before .before .before .good)
@@ -62,7 +61,7 @@ part-matches-start : tie.Need-part-matches-start Inv-loop μ-loop
 part-matches-start c = omega arith
 
 part-matches-end : tie.Need-part-matches-end Inv-loop μ-loop
-part-matches-end c = within (item-at c)
+part-matches-end c = let h = within (item-at c) in omega arith
 
 sub-matches-2 : tie.Need-sub-matches-2 Inv-loop μ-loop
 sub-matches-2 c = omega arith
@@ -83,6 +82,12 @@ returns : tie.Need-returns Inv-loop μ-loop
 returns c =
     let l = c .before .before .before .before in
     turn-fails _ _ (l .before .loop .i) (l .loop-test .taken) (c .before .matches .ensures ∙ same-at l) (c .if1 .taken)
+
+add-item : tie.Need-add-item Inv-loop μ-loop
+add-item c =
+    let l = c .before .before .before .before in
+    let h = within (item-at l) in
+    omega (arith, l .before .before .before .before .good)
 
 add-i : tie.Need-add-i Inv-loop μ-loop
 add-i c = omega arith
@@ -108,7 +113,7 @@ all-match-spec =
     mul-width
     loop-holds
     add-root
-    add-next-item
+    add-root-end
     add-next-wit
     sub-matches
     part-matches-start
@@ -118,6 +123,7 @@ all-match-spec =
     part-matches-end-2
     matches-requires
     returns
+    add-item
     add-i
     loop-less
     loop-again

@@ -1,6 +1,6 @@
 -- `encode::verdict` meets its contract, check by check.
 use mathlib.Core.Path.{refl, sym, _∙_}
-use borrow.Author.Tests.{not-true, not-false}
+use borrow.Author.Tests.{not-false}
 use Rattle.checks.proofs.Calls.{fails, passes}
 use Rattle.encoder.proofs.Accepted.{encode-fits}
 use borrow.Author.Needs.{needs}

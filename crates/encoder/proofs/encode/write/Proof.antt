@@ -1,4 +1,4 @@
--- `encode::write` meets its contract: it lends an array.
+-- `encode::write` meets its contract: the front of an array is scratch space.
 use mathlib.Core.Path.{sym}
 use native.Mathlib.Omega.{arith}
 use Rattle.checks.proofs.Fronts.{front-length}

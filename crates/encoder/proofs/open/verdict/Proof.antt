@@ -1,7 +1,7 @@
 -- `open::verdict` meets its contract, check by check.
 use mathlib.Core.Path.{refl, sym, _∙_}
 use native.Mathlib.Omega.{arith}
-use borrow.Author.Tests.{not-true, not-false}
+use borrow.Author.Tests.{not-false}
 use Rattle.checks.proofs.WitnessLaws.{count-few}
 use Rattle.checks.proofs.Calls.{fails, passes}
 use Rattle.encoder.proofs.Accepted.{OpenFits, open-fits}

@@ -1,4 +1,4 @@
--- `open::write` meets its contract: it lends an array.
+-- `open::write` meets its contract: the front of an array is scratch space.
 use mathlib.Core.Path.{sym}
 use native.Mathlib.Omega.{arith}
 use Rattle.checks.proofs.Fronts.{front-length}

@@ -1,5 +1,4 @@
 -- `row::read_exactly` meets its contract: numbers are read, and counted.
-use native.Mathlib.Omega.{arith}
 use borrow.Author.Needs.{needs}
 use Rattle.lines.proofs.ReadLaws.{exactly-bad, exactly-other, exactly-read}
 use Rattle.lines.proofs.row.read_exactly.Statement.{statement}

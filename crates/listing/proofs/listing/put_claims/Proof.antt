@@ -14,37 +14,36 @@ use Rattle.listing.proofs.listing.put_claims.Statement.{statement}
 use Rattle.listing.proofs.listing.put_claims.Tie as tie
 
 abbrev Inv-loop : tie.InvT-loop
-Inv-loop m n k pairs a b c items wits out₀ at size width item₀ wit₀ place₀ i₀ out item wit place i =
+Inv-loop m n k pairs size a b c items wits out₀ at width item₀ wit₀ place₀ i₀ out item wit place i =
     (i ≤ pairs) × (item ≡ i * size) × (wit ≡ i * (4 * k)) × (place ≤ at + 33 * i) × (length out ≡ length out₀) × Put at (claimLines m n k a b c items wits i) out₀ place out
 
 abbrev μ-loop : tie.MeasureT-loop
-μ-loop m n k pairs a b c items wits out₀ at size width item₀ wit₀ place₀ i₀ out item wit place i = pairs - i
+μ-loop m n k pairs size a b c items wits out₀ at width item₀ wit₀ place₀ i₀ out item wit place i = pairs - i
+
+-- The function's entry.
+abbrev start : tie.At-loop Inv-loop μ-loop → tie.Start Inv-loop μ-loop
+start c = c .before .before .before .before .before .before .before
 
 -- Item i and witness i.
-item-at : (c : tie.In-loop Inv-loop μ-loop) → (let a = c .before .before .before .before .before .before .before .before .before .args in Member (c .before .before .size .result) (a .pairs) (c .before .loop .i) (c .before .loop .item) (a .items .now))
-item-at c =
-    let s = c .before .before .before .before .before .before .before .before .before in
-    record { inside = c .loop-test .taken; place = c .before .loop .inv .1; long = s .pre .0 .4 ∙ ap (λ (size : ℕ). s .args .pairs * size) (sym (c .before .before .size .ensures)) }
+item-at : (c : tie.In-loop Inv-loop μ-loop) → (let a = start (c .before) .args in Member (a .size) (a .pairs) (c .before .loop .i) (c .before .loop .item) (a .items .now))
+item-at c = record { inside = c .loop-test .taken; place = c .before .loop .inv .1; long = start (c .before) .pre .0 .4 }
 
-wit-at : (c : tie.In-loop Inv-loop μ-loop) → (let a = c .before .before .before .before .before .before .before .before .before .args in Member (4 * a .k) (a .pairs) (c .before .loop .i) (c .before .loop .wit) (a .wits .now))
-wit-at c = record { inside = c .loop-test .taken; place = c .before .loop .inv .2; long = c .before .before .before .before .before .before .before .before .before .pre .0 .5 }
-
-size-requires : tie.Need-size-requires Inv-loop μ-loop
-size-requires c κs = omega arith
+wit-at : (c : tie.In-loop Inv-loop μ-loop) → (let a = start (c .before) .args in Member (4 * a .k) (a .pairs) (c .before .loop .i) (c .before .loop .wit) (a .wits .now))
+wit-at c = record { inside = c .loop-test .taken; place = c .before .loop .inv .2; long = start (c .before) .pre .0 .5 }
 
 mul-width : tie.Need-mul-width Inv-loop μ-loop
 mul-width c = omega arith
 
 loop-holds : tie.Need-loop-holds Inv-loop μ-loop
 loop-holds c =
-    let a = c .before .before .before .before .before .before .before .args in
+    let a = c .before .before .before .before .before .before .args in
     (omega arith, sym (zero-mul _), sym (zero-mul _), omega arith, refl, claims-none (a .at) (a .out .now))
 
 add-next-item : tie.Need-add-next-item Inv-loop μ-loop
-add-next-item c = let h = within (item-at c) in omega (arith, c .before .before .before .before .before .before .before .before .before .good)
+add-next-item c = let h = within (item-at c) in omega (arith, start (c .before) .good)
 
 add-next-wit : tie.Need-add-next-wit Inv-loop μ-loop
-add-next-wit c = let h = within (wit-at c) in omega (arith, c .before .before .before .before .before .before .before .before .before .good)
+add-next-wit c = let h = within (wit-at c) in omega (arith, start (c .before) .good)
 
 sub-item-value : tie.Need-sub-item-value Inv-loop μ-loop
 sub-item-value c = omega arith
@@ -67,9 +66,9 @@ part-item-value-end-2 c = within (wit-at (c .before))
 item-value-requires : tie.Need-item-value-requires Inv-loop μ-loop
 item-value-requires c κs =
     let l = c .before .before in
-    let s = l .before .before .before .before .before .before .before .before .before in
+    let s = start (l .before) in
     let a = s .args in
-    let size = l .before .before .size .ensures in
+    let size = s .pre .0 .6 in
     let long = cut-length (item-at l) in (
       (s .pre .0 .0, s .pre .0 .1, s .pre .0 .2, omega (arith, size), cut-length (wit-at l)),
       (cut-passes (item-at l) (itemBelow (a .m) (a .n)) (items-below-read (a .m) (a .n) (a .pairs) (a .items .now) size ∙ s .pre .1 .0), s .pre .1 .1),
@@ -88,7 +87,7 @@ get-requires : tie.Need-get-requires Inv-loop μ-loop
 get-requires c κs =
     let l = c .before .before .before .before in
     let long = cut-length (item-at l) in
-    omega (arith, l .before .before .size .ensures)
+    omega (arith, start (l .before) .pre .0 .6)
 
 cast-put-claim : tie.Need-cast-put-claim Inv-loop μ-loop
 cast-put-claim c = omega arith
@@ -104,15 +103,17 @@ loop-less c = omega arith
 
 loop-again : tie.Need-loop-again Inv-loop μ-loop
 loop-again c =
-    let a = c .before .before .before .before .before .before .before .before .before .before .before .before .before .before .before .before .before .before .args in
-    let l = c .before .before .before .before .before .before .before .before .before .before .loop in
+    let t = c .before .before .before .before .before .before .before .before .before in
+    let s = start (t .before) in
+    let a = s .args in
+    let l = t .before .loop in
     let put = c .before .before .put-claim .ensures in (
-      omega arith,
+      omega (arith, t .loop-test .taken),
       next-place _ (l .i) (l .inv .1),
       next-place (4 * a .k) (l .i) (l .inv .2),
       omega arith,
       omega arith,
-      claims-more (a .m) (a .n) (a .k) (a .a .now) (a .b .now) (a .c .now) (a .items .now) (a .wits .now) (l .i) (l .item) (l .wit) (c .before .before .before .before .before .before .before .before .before .before .before .size .ensures) (l .inv .1) (l .inv .2) (a .at) (a .out .now)
+      claims-more (a .m) (a .n) (a .k) (a .a .now) (a .b .now) (a .c .now) (a .items .now) (a .wits .now) (l .i) (l .item) (l .wit) (s .pre .0 .6) (l .inv .1) (l .inv .2) (a .at) (a .out .now)
           (c .before .before .before .before .before .before .item-value .ensures) (c .before .before .before .before .get .ensures) (l .inv .5) (omega arith) (put .0 .0, put .1),
     )
 
@@ -121,7 +122,7 @@ same-length c = c .before .loop .inv .4
 
 returns : tie.Need-returns Inv-loop μ-loop
 returns c =
-    let a = c .before .before .before .before .before .before .before .before .before .args in
+    let a = start (c .before) .args in
     let l = c .before .loop in
     let all : l .i ≡ a .pairs = omega arith in
     put-same (a .at) (a .out .now) (ap (claimLines (a .m) (a .n) (a .k) (a .a .now) (a .b .now) (a .c .now) (a .items .now) (a .wits .now)) all) (l .inv .5)
@@ -132,7 +133,6 @@ put-claims-spec =
     (tie.spec
     Inv-loop
     μ-loop
-    size-requires
     mul-width
     loop-holds
     add-next-item

@@ -1,7 +1,8 @@
 -- `verify::lengths_fit` meets its contract.
 use native.Mathlib.Omega.{arith}
 use borrow.Author.Needs.{needs}
-use Rattle.verifier.proofs.Counting.{t-few, depth-few, items-few, quotient-few, openings-few, openings-size-few, lengths-are}
+use Rattle.checks.proofs.Listed.{items-few}
+use Rattle.verifier.proofs.Counting.{t-few, depth-few, quotient-few, openings-few, openings-size-few, lengths-are}
 use Rattle.verifier.proofs.verify.lengths_fit.Statement.{statement}
 use Rattle.verifier.proofs.verify.lengths_fit.Tie as tie
 
@@ -15,7 +16,9 @@ opening-size-requires : tie.Need-opening-size-requires
 opening-size-requires c κs = omega (arith, c .depth-of .ensures, depth-few (c .before .before .before .before .before .before .before .pre))
 
 mul-result : tie.Need-mul-result
-mul-result c = omega (arith, items-few (c .before .before .before .before .before .before .before .before .pre) (c .before .before .size .ensures))
+mul-result c =
+    let s = c .before .before .before .before .before .before .before .before in
+    rw (c .before .before .size .ensures) (omega (arith, items-few (s .args .m) (s .args .n) (s .args .l) (s .pre .m-most) (s .pre .n-most) (s .pre .l-most)))
 
 mul-result-2 : tie.Need-mul-result-2
 mul-result-2 c = omega (arith, t-few (c .before .before .before .before .before .before .before .before .pre))

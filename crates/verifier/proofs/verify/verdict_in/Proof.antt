@@ -73,7 +73,7 @@ lead c =
     let s = c .before .before .before .before .before .before .before .before .before .before .before .before .before .before .before .before .before .before .before .before in
     let a = s .args in
     let g = s .pre .0 .1 in
-    openings-lead (a .m) (a .n) (a .k) (a .l) (a .t) (a .challenge) (a .items .now) (a .positions .now) (a .item .now) (a .openings .now) (g .positions-size) (g .openings-size) (s .pre .1 .2) (g .item-size)
+    openings-lead (a .m) (a .n) (a .k) (a .l) (a .t) (a .challenge) (a .items .now) (a .positions .now) (a .item .now) (a .openings .now) (g .positions-size) (g .openings-size) (s .pre .1 .2)
     (c .before .before .before .before .before .before .size .ensures) (c .before .before .before .before .before .before .before .front .ensures) (c .before .before .before .before .opening-size .ensures) (c .before .before .before .before .before .depth-of .ensures) (c .openings-lead .ensures)
 
 same-length-2 : tie.Need-same-length-2
