@@ -58,7 +58,7 @@ listed m n k l a b c items wits e =
       wits-size = eqb-true (length wits) (l * (4 * k)) (t .wits-fit);
     }
 
--- Its lengths are small numbers: an item has less than 1,024 bytes.
+-- Its lengths are small numbers: an item has at most 1,024 bytes.
 pub items-few : (m n l : ℕ) → m ≤ 6 → n ≤ 64 → l ≤ 8 → l * itemSize m n ≤ 8192
 items-few m n l hm hn hl = mul-le-mul {n₁ = l} {m₁ = itemSize m n} {n₂ = 8} {m₂ = 1024} hl (omega arith)
 
