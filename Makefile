@@ -1,7 +1,10 @@
 # The common commands. They need rt (the Rattle toolchain) and a C compiler; `test` and `bench` also need Rust, `fuzz` needs clang.
 
-version := 0.1.0
-program := claims
+# The version stands in the header.
+header := include/lomvuze.h
+number = $(shell sed -n 's/^.define LOMVUZE_VERSION_$(1) //p' $(header))
+major := $(call number,MAJOR)
+version := $(major).$(call number,MINOR).$(call number,PATCH)
 
 # LOMVUZE_STATICLIB and LOMVUZE_BIN name other folders with the static libraries and the program in them; nothing is built there.
 staticlib := $(or $(LOMVUZE_STATICLIB),target/staticlib)
@@ -9,44 +12,88 @@ bin := $(or $(LOMVUZE_BIN),target/bin)
 
 sources := crates.txt $(shell find crates -type f -not -path '*/must-fail/*')
 
-# Proves the exported calls and writes them as a static library.
-all: $(staticlib)/libverdicts.a
+# The library: an archive and a shared object.
+archive := target/liblomvuze.a
+shared := target/liblomvuze.so.$(version)
+soname := liblomvuze.so.$(major)
+all: $(archive) $(shared)
 
+# Proves the exported calls and writes them as a static library.
 target/staticlib/lib%.a: $(sources)
-	rt staticlib $*
-	touch $@
+	@bash make/prove.sh staticlib $*
+	@touch $@
+
+# The proved calls, and what is plain C beside them. Made again where another folder is named.
+$(archive): $(staticlib)/libverdicts.a target/lomvuze.o target/folder
+	@cp $< $@.part && $(AR) rs $@.part target/lomvuze.o && mv $@.part $@
+
+target/lomvuze.o: c/lomvuze.c $(header) Makefile
+	@mkdir -p target
+	$(CC) -std=c11 -O2 -fPIC -Wall -Wextra -Iinclude $(CFLAGS) -c -o $@ $<
+
+target/folder: always
+	@mkdir -p target
+	@echo '$(abspath $(staticlib))' | cmp -s - $@ || echo '$(abspath $(staticlib))' > $@
+
+# The same as a shared library, which exports what the header declares alone and has no text relocations.
+$(shared): $(archive) c/lomvuze.map Makefile
+	$(CC) -shared -Wl,-soname,$(soname) -Wl,--version-script=c/lomvuze.map -Wl,-z,defs -Wl,-z,text $(LDFLAGS) -o $@ \
+	    -Wl,--whole-archive $(archive) -Wl,--no-whole-archive
 
 # Proves a program, links it and runs it on its stored input.
 target/bin/%: $(sources)
-	rt check $*
-	touch $@
+	@bash make/prove.sh check $*
+	@touch $@
 
-# Folds the stored statements into one, verifies the fold and decides what is left.
-demo: target/fold_batch
-	@target/fold_batch examples/c/statements.bin
+# Folds stored items into one, verifies the fold and decides what is left; then shows a fold that is refused.
+demo: compiler target/fold_batch target/verify_batch
+	@bash make/demo.sh
 
-target/fold_batch: examples/c/fold_batch.c examples/c/batch.h include/lomvuze.h $(staticlib)/libverdicts.a
-	mkdir -p target
-	$(CC) -std=c11 -O2 -Iinclude -o $@ $< $(staticlib)/libverdicts.a
+compiler:
+	@command -v $(firstword $(CC)) >/dev/null || { echo 'A C compiler is missing: there is no $(firstword $(CC)) on PATH (CC names another).' >&2; exit 2; }
+
+# Prints the root of a witness.
+root: compiler target/root
+
+target/fold_batch target/verify_batch target/root: target/%: examples/c/%.c examples/c/batch.h $(header) $(archive)
+	@mkdir -p target
+	$(CC) -std=c11 -O2 -Iinclude -o $@ $< $(archive)
 
 # The program that lists which items of a sheet hold.
 claims: $(bin)/claims
 
-# Library, header, pkg-config file and program, under PREFIX. DESTDIR goes before it where they are packed for another machine.
+# Libraries, headers, pkg-config file, program, documents, examples and man pages, under PREFIX. DESTDIR goes before it where they are packed for another
+# machine. Both may have spaces.
 PREFIX ?= /usr/local
-prefix = $(abspath $(PREFIX))
-root = $(DESTDIR)$(prefix)
+prefix := $(if $(filter /%,$(firstword $(PREFIX))),$(PREFIX),$(CURDIR)/$(PREFIX))
+quoted = '$(subst ','\'',$(1))'
+to = $(call quoted,$(DESTDIR)$(prefix)/$(1))
+# Each function has a man page that leads to that of the library.
+functions := $(shell sed -n 's/^\(uint32_t \|const char \*\)\(lomvuze_[a-z_]*\).*/\2/p' $(header))
+installed := bin/claims include/lomvuze.h include/lomvuze.hpp lib/liblomvuze.a lib/liblomvuze.so lib/$(soname) lib/liblomvuze.so.$(version) \
+    lib/pkgconfig/lomvuze.pc share/man/man1/claims.1 share/man/man3/lomvuze.3 $(functions:%=share/man/man3/%.3)
+write = install -m 644 /dev/stdin
 
-install: $(staticlib)/libverdicts.a $(bin)/$(program)
-	install -d $(root)/lib/pkgconfig $(root)/include $(root)/bin
-	install -m 644 $(staticlib)/libverdicts.a $(root)/lib/liblomvuze.a
-	install -m 644 include/lomvuze.h $(root)/include/lomvuze.h
-	install -m 755 $(bin)/$(program) $(root)/bin/$(program)
-	sed -e 's|@PREFIX@|$(prefix)|' -e 's|@VERSION@|$(version)|' lomvuze.pc.in > $(root)/lib/pkgconfig/lomvuze.pc
-	chmod 644 $(root)/lib/pkgconfig/lomvuze.pc
+install: all $(bin)/claims
+	install -d $(foreach folder,bin include lib/pkgconfig share/doc/lomvuze/docs share/man/man1 share/man/man3,$(call to,$(folder)))
+	install -m 644 $(archive) $(call to,lib)
+	install -m 755 $(shared) $(call to,lib)
+	ln -sf liblomvuze.so.$(version) $(call to,lib/$(soname))
+	ln -sf $(soname) $(call to,lib/liblomvuze.so)
+	install -m 644 include/lomvuze.h include/lomvuze.hpp $(call to,include)
+	{ echo prefix=$(call quoted,$(prefix)); sed 's/@VERSION@/$(version)/' lomvuze.pc.in; } | $(write) $(call to,lib/pkgconfig/lomvuze.pc)
+	install -m 755 $(bin)/claims $(call to,bin)
+	install -m 644 README.md LICENSE $(call to,share/doc/lomvuze)
+	install -m 644 docs/*.md docs/crates.svg $(call to,share/doc/lomvuze/docs)
+	cp -RL examples $(call to,share/doc/lomvuze) && chmod -R u=rwX,go=rX $(call to,share/doc/lomvuze/examples)
+	sed '/\*\//,$$d; 1d; s/^ \* \{0,1\}//' $(header) | $(write) $(call to,share/doc/lomvuze/lomvuze.txt)
+	install -m 644 docs/man/claims.1 $(call to,share/man/man1)
+	install -m 644 docs/man/lomvuze.3 $(call to,share/man/man3)
+	for function in $(functions); do echo .so man3/lomvuze.3 | $(write) $(call to,share/man/man3)/$$function.3; done
 
 uninstall:
-	rm -f $(root)/lib/liblomvuze.a $(root)/lib/pkgconfig/lomvuze.pc $(root)/include/lomvuze.h $(root)/bin/$(program)
+	rm -f $(foreach file,$(installed),$(call to,$(file)))
+	rm -rf $(call to,share/doc/lomvuze)
 
 # The gate: every test and every proof, from nothing.
 test:
@@ -66,4 +113,4 @@ diagram:
 fuzz:
 	bash fuzz/run.sh
 
-.PHONY: all demo claims install uninstall test bench diagram fuzz
+.PHONY: all always demo compiler root claims install uninstall test bench diagram fuzz

@@ -43,13 +43,13 @@ static void refit(void) {
 }
 
 static uint32_t permitted_number(char letter) {
-  size_t k = LOMVUZE_MIN_K <= input.sizes.k && input.sizes.k <= LOMVUZE_MAX_K ? input.sizes.k : LOMVUZE_MAX_K;
+  size_t k = LOMVUZE_IS_K(input.sizes.k) ? input.sizes.k : LOMVUZE_MAX_K;
   switch (letter) {
     case 'm': return (uint32_t)below(LOMVUZE_MAX_M + 1);
     case 'n': return LOMVUZE_MIN_N + (uint32_t)below(LOMVUZE_MAX_N);
     case 'k': return UINT32_C(2) << below(6);
     case 'l': return LOMVUZE_MIN_L + (uint32_t)below(LOMVUZE_MAX_L);
-    case 't': return LOMVUZE_MIN_T + (uint32_t)below(LOMVUZE_MAX_T(k));
+    case 't': return LOMVUZE_MIN_T + (uint32_t)below(4 * k);
     default: {
       const uint32_t challenges[] = {input.sizes.l, LOMVUZE_P - 1, LOMVUZE_MAX_L + (uint32_t)below(LOMVUZE_P - LOMVUZE_MAX_L)};
       return challenges[below(sizeof challenges / sizeof challenges[0])];
@@ -99,7 +99,7 @@ static void change_length(void) {
   if (part_of(i) != ENTRIES) {
     input.more[i] = below(2) == 0 ? 0 : step;
   } else if (below(8) == 0) {
-    input.more[i] = (int32_t)LOMVUZE_ENTRIES_BYTES(LOMVUZE_MAX_ENTRIES + below(2));
+    input.more[i] = (int32_t)(LOMVUZE_ENTRIES_BYTES(1) * (LOMVUZE_MAX_ENTRIES + below(2)));
   } else {
     input.more[i] = (int32_t)input.lengths[i] + step;
   }
@@ -116,6 +116,7 @@ static size_t stride(enum part part) {
     case ITEM:
     case ITEMS: return LOMVUZE_ITEM_BYTES(s->m, s->n);
     case WITNESSES: return LOMVUZE_WITNESS_BYTES(s->k);
+    case OPENED:
     case ALL_OPENINGS: return LOMVUZE_OPENING_BYTES(s->k);
     default: return LOMVUZE_NUMBER_BYTES;
   }

@@ -16,12 +16,12 @@ fail() { printf 'FAILED: %s\n' "$1"; exit 1; }
 calls=$(sed -n 's/^uint32_t lomvuze_\([a-z_]*\)(.*/\1/p' include/lomvuze.h)
 flags=(-std=c11 -O1 -g -Wall -Wextra -Wpedantic -Werror -Iinclude)
 checked=(-fsanitize=address,undefined -fno-sanitize-recover=undefined)
-for part in target replay $calls; do
+for part in target input memory replay $calls; do
     cc "${flags[@]}" "${checked[@]}" -c -o "$folder/$part.o" "fuzz/$part.c"
 done
 cc "${flags[@]}" -c -o "$folder/fault.o" fuzz/fault.c
 for call in $calls; do
-    objects=("$folder/$call.o" "$folder/target.o" "$folder/replay.o")
+    objects=("$folder/$call.o" "$folder/target.o" "$folder/input.o" "$folder/memory.o" "$folder/replay.o")
     cc "${checked[@]}" -o "$folder/$call" "${objects[@]}" "$library"
     cc "${checked[@]}" -o "$folder/$call.faulty" "${objects[@]}" "$folder/fault.o" "$library"
 done

@@ -1,6 +1,6 @@
 /*
  * Fuzz targets: each tries one call of include/lomvuze.h on inputs that a fuzzer makes. The file of a call, such as verify.c, defines
- * `target`; target.c runs the call and checks what it did, mutator.c changes inputs.
+ * `target`; target.c runs the call and checks what it did, input.c reads inputs, memory.c has the buffers, mutator.c changes inputs.
  *
  * THE INPUT
  *
@@ -42,7 +42,8 @@ enum part {
   QUOTIENT,
   POSITIONS,
   OPENINGS,     /* of one witness */
-  ALL_OPENINGS, /* of all items and the new one */
+  OPENED,       /* of all items and the new one, witness by witness */
+  ALL_OPENINGS, /* of all items and the new one, position by position */
   SHEET,        /* the only input of its call */
   SHEET_ENTRIES,
   SHEET_ITEMS,
@@ -107,7 +108,7 @@ uint32_t number_at(const uint8_t *bytes);
 /* The item, for m = 0 and n = 1, of a witness and a circuit without entries. */
 struct buffer item_of(uint32_t k, struct buffer witness);
 
-/* ---- Inputs, for target.c and mutator.c */
+/* ---- Inputs, for target.c, input.c and mutator.c */
 
 struct input {
   struct sizes sizes;
@@ -125,8 +126,13 @@ size_t pack(const struct input *input, uint8_t *data, size_t most);
 void cut(struct input *input);
 
 size_t input_count(void);
+size_t output_count(void);
 size_t buffer_count(void);
 enum part part_of(size_t buffer);
+bool reads_sheet(void);
+
+/* log2(4k), from the last bits of k alone: those of 2^30 more are the same. */
+uint32_t depth_of(uint32_t k);
 
 /* A number by its letter, and whether check 2 permits it. */
 uint32_t *number_of(struct sizes *sizes, char letter);
@@ -134,6 +140,18 @@ bool permitted(uint32_t number, char letter, uint32_t k);
 
 /* Whether the call passes check 2. */
 bool fits(const struct input *input);
+
+/* ---- Memory, for target.c */
+
+/* Takes back all buffers. */
+void free_all(void);
+
+/* A buffer at one side of memory with access. */
+enum side { AT_START, AT_END };
+struct buffer place(size_t length, enum side side);
+
+/* Zeros, 2^32 bytes longer than a buffer. */
+struct buffer far_longer(struct buffer buffer);
 
 /* ---- For replay.c and fault.c */
 

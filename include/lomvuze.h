@@ -1,7 +1,11 @@
 /*
- * Lomvuze: fold up to 8 R1CS claims into one, verify the fold, decide the claim that is left.
+ * Lomvuze: fold up to 8 items into one, verify the fold, decide the item that is left.
  *
- * Link with liblomvuze.a, which is libverdicts.a where it is not installed (x86-64). C11 and C++.
+ * An item is what the calls test: a claim about one circuit (R1CS), a point r and a witness under a
+ * root. A statement is what somebody hands in; lomvuze_cast makes an item of it.
+ *
+ * Link with liblomvuze.so or liblomvuze.a (x86-64 Linux). For C11 and C++11; lomvuze.hpp has the
+ * same calls for C++ containers.
  *
  * SIZES
  *
@@ -49,34 +53,71 @@
  *                    plus Z(a) * quotient(a); root: that of the new witness's codeword
  *   the new witness  the sum of L_i(a) times the items' witnesses
  *
- * Challenges and positions come from the caller, who has to choose them after, and independently
- * of, all that they test. A field of 31 bits gives no security level by itself.
+ * WHAT THE CALLER SEES TO
+ *
+ * Between a statement and a verdict stand things that no call can test. The program
+ * examples/c/obligations shows what goes wrong without each.
+ *
+ *   1. A fresh statement has e = 0, as casting sets it. Any other e is the result of a fold that
+ *      you verified yourself. Test e of each item that is handed in: with e = p - 1 the false
+ *      4 * 5 = 21 is accepted at every challenge.
+ *   2. r is picked after x and root are fixed, and not by whoever hands in the statement. Row j
+ *      counts with weight_j alone: at r = 0 a false row 1 counts nothing, and its item holds.
+ *   3. The challenge is picked after items and quotient are fixed, and not by whoever made them.
+ *      For one that is known beforehand, a quotient can be made that lets a false item pass.
+ *   4. There are at least k different positions, picked after all that they test (items, quotient
+ *      and new item, its root too), and not by the prover. With fewer that are known beforehand, a
+ *      new witness that fits them and holds can be found for a false item.
+ *   5. lomvuze_verify and lomvuze_decide get the same bytes (the new item and the sizes), and
+ *      lomvuze_decide gets the circuit that was agreed on. Otherwise a fold of a false item is
+ *      verified, another item is decided, and both answer 0.
+ *   6. Both answers are 0. lomvuze_verify sees no circuit and no witness, lomvuze_decide sees one
+ *      item: for a fold of a false item the one answers 0 and the other LOMVUZE_CLAIM.
+ *   7. Where a new item is folded again, its own fold is verified, answer 0, with the very bytes
+ *      that are folded above. Otherwise another item stands in its place, and every call answers 0.
+ *
+ * What one accepted fold (both answers 0) establishes: the new item is the combination of exactly
+ * the l items lent, at this challenge, and holds with a witness of its root; each opened value of
+ * each item leads to that item's root. Its verdict covers these l items and no others. Where they
+ * are the new items of folds below, it is about them, and of what was folded below it says no more
+ * than deciding those new items would: no theorem is about depth.
+ *
+ * What it does not establish: that any of the items holds, or that a root is that of a codeword.
+ * Accepted at more than (l - 1) * (m + 2) challenges, with the same circuit, items, quotient and k
+ * different positions, each of the l items holds with the one witness that the opened values fix,
+ * or two different strings with one SHA-256 digest were hashed. An item that holds at its r is not
+ * yet every row holding. A field of 31 bits gives no security level by itself.
  *
  * THE CALLS, IN THE ORDER OF USE
  *
- *   lomvuze_cast      an item from a circuit, public inputs and a witness
- *   lomvuze_fold      quotient, new item and new witness from l items and their witnesses
- *   lomvuze_open      the openings of one witness: to be called for each item's witness and for
- *                     the new one, with the same positions
- *   lomvuze_verify    tests a fold by items, quotient, new item and openings, without circuit
- *                     or witness
- *   lomvuze_decide    tests one item, such as the last new one, with its circuit and witness
+ *   lomvuze_cast        an item from a circuit, r, public inputs and a witness
+ *   lomvuze_fold        quotient, new item and new witness from l items and their witnesses
+ *   lomvuze_open        the openings of one witness: to be called for each item's witness and for
+ *                       the new one, with the same positions
+ *   lomvuze_interleave  the openings of all of them, in the order in which lomvuze_verify reads
+ *                       them
+ *   lomvuze_verify      tests a fold by items, quotient, new item and openings, without circuit
+ *                       or witness
+ *   lomvuze_decide      tests one item, such as the last new one, with its circuit and witness
  *
  *   lomvuze_encode      codeword and root of a witness
  *   lomvuze_quotient    the quotient alone
  *   lomvuze_read_sheet  sizes, circuit, items and witnesses from a sheet of text
  *
+ *   lomvuze_strerror    what an answer means
+ *   lomvuze_version     the version of the library
+ *
  * ANSWERS
  *
- * Every call returns 0 or the number of the first of its checks that fails (enum lomvuze_answer).
- * Each check covers the whole input before the next one runs. What a call returns and writes
- * depends on its arguments alone.
+ * Each of the eight calls and the sheet reader returns 0 or the number of the first of its checks
+ * that fails (enum lomvuze_answer). Each check covers the whole input before the next one runs.
+ * What a call returns and writes depends on its arguments alone.
  *
  * A call that does not return 0 has written nothing: its output buffers are as they were.
  *
  * MEMORY
  *
- * - No pointer may be null. Where the length is 0, any other pointer will do. (The quotient of
+ * - No pointer may be null, not even that of an empty buffer: see LOMVUZE_EMPTY. (The quotient of
  *   one item is empty, and so is r for m = 0.)
  * - Input buffers may overlap each other. An output buffer must not overlap any other buffer of
  *   the same call.
@@ -92,9 +133,10 @@
  *     lomvuze_quotient   5,120
  *     lomvuze_fold       6,656
  *     lomvuze_open      19,968
+ *     lomvuze_interleave   512
  *     lomvuze_verify     2,560
  *     lomvuze_decide     4,608
- *     lomvuze_read_sheet 81,920
+ *     lomvuze_read_sheet 50,176
  *
  * - The time that a call takes may depend on the numbers in its buffers.
  */
@@ -108,6 +150,16 @@
 extern "C" {
 #endif
 
+/* ---- The version of this header: numbers, and the text "MAJOR.MINOR.PATCH" */
+
+#define LOMVUZE_VERSION_MAJOR 0
+#define LOMVUZE_VERSION_MINOR 1
+#define LOMVUZE_VERSION_PATCH 0
+#define LOMVUZE_VERSION \
+  LOMVUZE_TEXT(LOMVUZE_VERSION_MAJOR, LOMVUZE_VERSION_MINOR, LOMVUZE_VERSION_PATCH)
+#define LOMVUZE_TEXT(major, minor, patch) LOMVUZE_QUOTED(major, minor, patch)
+#define LOMVUZE_QUOTED(major, minor, patch) #major "." #minor "." #patch
+
 /* ---- Limits */
 
 #define LOMVUZE_P UINT32_C(2013265921)
@@ -119,51 +171,131 @@ extern "C" {
 #define LOMVUZE_MIN_L 1
 #define LOMVUZE_MAX_L 8
 #define LOMVUZE_MIN_T 1
-#define LOMVUZE_MAX_T(k) (4 * (k))
 #define LOMVUZE_MAX_ENTRIES 1024
 #define LOMVUZE_MAX_PAIRS 64
 #define LOMVUZE_MAX_SHEET 60000
 
-/* ---- Lengths in bytes, for permitted sizes. Constant where the arguments are. */
+/*
+ * The macros with arguments take any integer type, are constant where the arguments are, and
+ * evaluate them more than once. As a size, a negative argument is above every limit. (The sum is
+ * for gcc, which warns where a narrow type has only values within a limit.)
+ */
+#ifdef __cplusplus
+#define LOMVUZE_AS_SIZE(x) (static_cast<size_t>(x) + 0)
+#else
+#define LOMVUZE_AS_SIZE(x) ((size_t)(x) + 0)
+#endif
 
-#define LOMVUZE_NUMBER_BYTES ((size_t)4)
-#define LOMVUZE_DIGEST_BYTES ((size_t)32)
+/* log2(4k): the levels of the tree over a codeword. 4k: the greatest t. 0 for any other k. */
+#define LOMVUZE_DEPTH(k)                         \
+  LOMVUZE_AS_SIZE(LOMVUZE_AS_SIZE(k) == 2    ? 3 \
+                  : LOMVUZE_AS_SIZE(k) == 4  ? 4 \
+                  : LOMVUZE_AS_SIZE(k) == 8  ? 5 \
+                  : LOMVUZE_AS_SIZE(k) == 16 ? 6 \
+                  : LOMVUZE_AS_SIZE(k) == 32 ? 7 \
+                  : LOMVUZE_AS_SIZE(k) == 64 ? 8 \
+                                             : 0)
+#define LOMVUZE_MAX_T(k) (LOMVUZE_IS_K(k) ? LOMVUZE_AS_SIZE(k) * 4 : 0)
 
-/* A list of `count` entries. */
-#define LOMVUZE_ENTRIES_BYTES(count) ((size_t)12 * (count))
+/* Whether a size is permitted. */
+#define LOMVUZE_IS_M(m) (LOMVUZE_AS_SIZE(m) <= LOMVUZE_MAX_M)
+#define LOMVUZE_IS_N(n) \
+  (LOMVUZE_AS_SIZE(n) >= LOMVUZE_MIN_N && LOMVUZE_AS_SIZE(n) <= LOMVUZE_MAX_N)
+#define LOMVUZE_IS_K(k) (LOMVUZE_DEPTH(k) != 0)
+#define LOMVUZE_IS_L(l) \
+  (LOMVUZE_AS_SIZE(l) >= LOMVUZE_MIN_L && LOMVUZE_AS_SIZE(l) <= LOMVUZE_MAX_L)
+#define LOMVUZE_IS_T(k, t) \
+  (LOMVUZE_AS_SIZE(t) >= LOMVUZE_MIN_T && LOMVUZE_AS_SIZE(t) <= LOMVUZE_MAX_T(k))
 
-/* r, x and a witness. */
-#define LOMVUZE_R_BYTES(m) ((size_t)4 * (m))
-#define LOMVUZE_X_BYTES(n) ((size_t)4 * (n))
-#define LOMVUZE_WITNESS_BYTES(k) ((size_t)4 * (k))
-#define LOMVUZE_WITNESSES_BYTES(k, l) ((size_t)(l) * LOMVUZE_WITNESS_BYTES(k))
+/*
+ * ---- Lengths in bytes
+ *
+ * Nothing wraps: where an argument is outside its limits, the length is LOMVUZE_NO_LENGTH, which no
+ * buffer has. A count of entries, items, witnesses, positions or openings may be less than a call
+ * permits, so item i starts at LOMVUZE_ITEMS_BYTES(m, n, i).
+ */
 
-#define LOMVUZE_CODEWORD_BYTES(k) ((size_t)16 * (k))
+#define LOMVUZE_NO_LENGTH SIZE_MAX
+#define LOMVUZE_LENGTH(permitted, length) ((permitted) ? (length) : LOMVUZE_NO_LENGTH)
 
-/* Where an item's root starts, the item, and l items. */
-#define LOMVUZE_ITEM_ROOT(m, n) ((size_t)4 + (size_t)4 * (m) + (size_t)4 * (n))
-#define LOMVUZE_ITEM_BYTES(m, n) (LOMVUZE_ITEM_ROOT(m, n) + LOMVUZE_DIGEST_BYTES)
-#define LOMVUZE_ITEMS_BYTES(m, n, l) ((size_t)(l) * LOMVUZE_ITEM_BYTES(m, n))
+#define LOMVUZE_NUMBER_BYTES LOMVUZE_AS_SIZE(4)
+#define LOMVUZE_DIGEST_BYTES LOMVUZE_AS_SIZE(32)
 
-#define LOMVUZE_QUOTIENT_BYTES(m, l) ((size_t)4 * ((size_t)(l) - 1) * ((size_t)(m) + 1))
+/* A list of `count` entries, up to LOMVUZE_MAX_ENTRIES. */
+#define LOMVUZE_ENTRIES_BYTES(count) \
+  LOMVUZE_LENGTH(LOMVUZE_AS_SIZE(count) <= LOMVUZE_MAX_ENTRIES, LOMVUZE_AS_SIZE(count) * 12)
 
-#define LOMVUZE_POSITIONS_BYTES(t) ((size_t)4 * (t))
+/* r, x, a witness, and l witnesses, up to LOMVUZE_MAX_PAIRS. */
+#define LOMVUZE_R_BYTES(m) LOMVUZE_LENGTH(LOMVUZE_IS_M(m), LOMVUZE_AS_SIZE(m) * 4)
+#define LOMVUZE_X_BYTES(n) LOMVUZE_LENGTH(LOMVUZE_IS_N(n), LOMVUZE_AS_SIZE(n) * 4)
+#define LOMVUZE_WITNESS_BYTES(k) LOMVUZE_LENGTH(LOMVUZE_IS_K(k), LOMVUZE_AS_SIZE(k) * 4)
+#define LOMVUZE_WITNESSES_BYTES(k, l)                                        \
+  LOMVUZE_LENGTH(LOMVUZE_IS_K(k) && LOMVUZE_AS_SIZE(l) <= LOMVUZE_MAX_PAIRS, \
+                 LOMVUZE_AS_SIZE(l) * LOMVUZE_WITNESS_BYTES(k))
 
-/* log2(4k): the levels of the tree over a codeword. */
-#define LOMVUZE_DEPTH(k) \
-  ((k) == 2 ? 3 : (k) == 4 ? 4 : (k) == 8 ? 5 : (k) == 16 ? 6 : (k) == 32 ? 7 : 8)
+#define LOMVUZE_CODEWORD_BYTES(k) LOMVUZE_LENGTH(LOMVUZE_IS_K(k), LOMVUZE_AS_SIZE(k) * 16)
 
-/* One opening; the t that lomvuze_open writes; the t * (l + 1) that lomvuze_verify reads. */
-#define LOMVUZE_OPENING_BYTES(k) ((size_t)4 + LOMVUZE_DIGEST_BYTES * LOMVUZE_DEPTH(k))
-#define LOMVUZE_OPENINGS_BYTES(k, t) ((size_t)(t) * LOMVUZE_OPENING_BYTES(k))
-#define LOMVUZE_ALL_OPENINGS_BYTES(k, l, t) \
-  ((size_t)(t) * ((size_t)(l) + 1) * LOMVUZE_OPENING_BYTES(k))
+/* Where an item's root starts, the item, and l items, up to LOMVUZE_MAX_PAIRS. */
+#define LOMVUZE_ITEM_ROOT(m, n)                      \
+  LOMVUZE_LENGTH(LOMVUZE_IS_M(m) && LOMVUZE_IS_N(n), \
+                 (1 + LOMVUZE_AS_SIZE(m) + LOMVUZE_AS_SIZE(n)) * 4)
+#define LOMVUZE_ITEM_BYTES(m, n)                     \
+  LOMVUZE_LENGTH(LOMVUZE_IS_M(m) && LOMVUZE_IS_N(n), \
+                 LOMVUZE_ITEM_ROOT(m, n) + LOMVUZE_DIGEST_BYTES)
+#define LOMVUZE_ITEMS_BYTES(m, n, l)                                                            \
+  LOMVUZE_LENGTH(LOMVUZE_IS_M(m) && LOMVUZE_IS_N(n) && LOMVUZE_AS_SIZE(l) <= LOMVUZE_MAX_PAIRS, \
+                 LOMVUZE_AS_SIZE(l) * LOMVUZE_ITEM_BYTES(m, n))
+
+#define LOMVUZE_QUOTIENT_BYTES(m, l)                 \
+  LOMVUZE_LENGTH(LOMVUZE_IS_M(m) && LOMVUZE_IS_L(l), \
+                 (LOMVUZE_AS_SIZE(l) - 1) * (LOMVUZE_AS_SIZE(m) + 1) * 4)
+
+#define LOMVUZE_POSITIONS_BYTES(t)                                      \
+  LOMVUZE_LENGTH(LOMVUZE_AS_SIZE(t) <= LOMVUZE_MAX_T(LOMVUZE_MAX_K), \
+                 LOMVUZE_AS_SIZE(t) * 4)
+
+/*
+ * One opening; the t that lomvuze_open writes; the t * (l + 1) that lomvuze_interleave writes and
+ * lomvuze_verify reads.
+ */
+#define LOMVUZE_OPENING_BYTES(k) \
+  LOMVUZE_LENGTH(LOMVUZE_IS_K(k), 4 + LOMVUZE_DEPTH(k) * LOMVUZE_DIGEST_BYTES)
+#define LOMVUZE_OPENINGS_BYTES(k, t)                                        \
+  LOMVUZE_LENGTH(LOMVUZE_IS_K(k) && LOMVUZE_AS_SIZE(t) <= LOMVUZE_MAX_T(k), \
+                 LOMVUZE_AS_SIZE(t) * LOMVUZE_OPENING_BYTES(k))
+#define LOMVUZE_ALL_OPENINGS_BYTES(k, l, t)                                                    \
+  LOMVUZE_LENGTH(LOMVUZE_IS_K(k) && LOMVUZE_IS_L(l) && LOMVUZE_AS_SIZE(t) <= LOMVUZE_MAX_T(k), \
+                 (LOMVUZE_AS_SIZE(l) + 1) * LOMVUZE_OPENINGS_BYTES(k, t))
 
 /* The buffers of lomvuze_read_sheet: the greatest lengths. */
 #define LOMVUZE_SHEET_ENTRIES_BYTES LOMVUZE_ENTRIES_BYTES(LOMVUZE_MAX_ENTRIES)
 #define LOMVUZE_SHEET_ITEMS_BYTES \
   LOMVUZE_ITEMS_BYTES(LOMVUZE_MAX_M, LOMVUZE_MAX_N, LOMVUZE_MAX_PAIRS)
 #define LOMVUZE_SHEET_WITNESSES_BYTES LOMVUZE_WITNESSES_BYTES(LOMVUZE_MAX_K, LOMVUZE_MAX_PAIRS)
+
+/*
+ * ---- Empty buffers
+ *
+ * LOMVUZE_EMPTY is an empty buffer as two arguments, for an input or an output. lomvuze_in and
+ * lomvuze_out are for a buffer that may be empty: where the length is 0 they give a pointer that is
+ * not null, whatever the buffer's own is (null from malloc(0), or from an empty std::vector), and
+ * else the buffer's own. (Null itself, with length 0, does no harm in the library as it is compiled
+ * now, which tests/c/plain.c sees; nothing promises it.)
+ */
+static inline uint8_t *lomvuze_empty(void) {
+  static uint8_t none; /* no call reads or writes it */
+  return &none;
+}
+
+static inline const uint8_t *lomvuze_in(const uint8_t *bytes, size_t length) {
+  return length != 0 ? bytes : lomvuze_empty();
+}
+
+static inline uint8_t *lomvuze_out(uint8_t *bytes, size_t length) {
+  return length != 0 ? bytes : lomvuze_empty();
+}
+
+#define LOMVUZE_EMPTY lomvuze_empty(), 0
 
 /* ---- Answers */
 
@@ -223,8 +355,8 @@ uint32_t lomvuze_encode(uint32_t k,
                         uint8_t *root_out, size_t root_out_len);
 
 /*
- * Writes the item of a claim: e = 0, r and x as given, and the root of the witness's codeword. Its
- * value has to be 0, as it is for every r when every row of the circuit holds.
+ * Writes the item of a statement: e = 0, r and x as given, and the root of the witness's codeword.
+ * Its value has to be 0, as it is for every r when every row of the circuit holds.
  *
  *   a, b, c   LOMVUZE_ENTRIES_BYTES of up to LOMVUZE_MAX_ENTRIES entries each
  *   r         LOMVUZE_R_BYTES(m)
@@ -302,6 +434,21 @@ uint32_t lomvuze_open(uint32_t k, uint32_t t,
                       uint8_t *openings_out, size_t openings_out_len);
 
 /*
+ * Puts the openings of l items and of the new one in the order in which lomvuze_verify reads them.
+ *
+ *   opened        LOMVUZE_ALL_OPENINGS_BYTES(k, l, t): the l + 1 buffers that lomvuze_open wrote,
+ *                 one witness after the other, the new one last. Those of item i start at
+ *                 i * LOMVUZE_OPENINGS_BYTES(k, t), and the new item has i = l.
+ *   openings_out  LOMVUZE_ALL_OPENINGS_BYTES(k, l, t): position by position and, within one, item
+ *                 by item, the new item last
+ *
+ * Checks: LOMVUZE_SIZE. What the openings hold is not looked at.
+ */
+uint32_t lomvuze_interleave(uint32_t k, uint32_t l, uint32_t t,
+                            const uint8_t *opened, size_t opened_len,
+                            uint8_t *openings_out, size_t openings_out_len);
+
+/*
  * Verifies a fold of l items at t positions. It sees neither circuit nor witness, and has no output
  * buffer.
  *
@@ -352,8 +499,8 @@ uint32_t lomvuze_decide(uint32_t m, uint32_t n, uint32_t k,
  *   a_out .. c_out    LOMVUZE_SHEET_ENTRIES_BYTES each
  *   items_out         LOMVUZE_SHEET_ITEMS_BYTES
  *   wits_out          LOMVUZE_SHEET_WITNESSES_BYTES
- *   sizes_out         m, n, k, the count of entries of A, B and C, and the count of pairs. An array of
- *                     numbers in the machine's own order, which has to be aligned as such.
+ *   sizes_out         m, n, k, the count of entries of A, B and C, and the count of pairs. An array
+ *                     of numbers in the machine's own order, which has to be aligned as such.
  *
  * Checks, in this order: LOMVUZE_SHEET, LOMVUZE_SIZE, LOMVUZE_ELEMENT, LOMVUZE_CIRCUIT.
  */
@@ -364,6 +511,15 @@ uint32_t lomvuze_read_sheet(const uint8_t *sheet, size_t sheet_len,
                             uint8_t *items_out, size_t items_out_len,
                             uint8_t *wits_out, size_t wits_out_len,
                             uint32_t sizes_out[7]);
+
+/*
+ * What an answer means, in a few words of English: "accepted" for 0, "unknown answer" for a number
+ * that no call returns. The text is constant and is not to be freed.
+ */
+const char *lomvuze_strerror(uint32_t answer);
+
+/* The version of the library: LOMVUZE_VERSION of the header that it was built with. */
+const char *lomvuze_version(void);
 
 #ifdef __cplusplus
 }

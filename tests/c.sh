@@ -1,22 +1,53 @@
 #!/usr/bin/env bash
-# The C examples: builds the library of the seven calls, both programs and the header in C and in C++; runs the programs on the stored
-# files and on damaged copies of them. LOMVUZE_STATICLIB names another folder with libverdicts.a in it; nothing is built there. The programs are
-# run by the command that LOMVUZE_RUN gives, if any (tests/valgrind.sh).
+# The library for C and C++: the header beside what is exported (tests/header.sh); headers and examples under each compiler and standard, without a
+# warning; what the headers have beside the calls (tests/c); and the examples, run on the stored files and on damaged copies of them.
+# LOMVUZE_STATICLIB names another folder with libverdicts.a in it; nothing is proved then. The programs are run by the command that LOMVUZE_RUN
+# gives, if any (tests/valgrind.sh).
 set -euo pipefail
 cd "$(dirname "$0")/.."
-if [ -z "${LOMVUZE_STATICLIB:-}" ]; then
-    rt staticlib verdicts
-fi
-library="${LOMVUZE_STATICLIB:-target/staticlib}/libverdicts.a"
+bash tests/header.sh
+make -s all
+library=target/liblomvuze.a
 folder=$(mktemp -d)
 trap 'rm -rf "$folder"' EXIT
 
-flags="-Wall -Wextra -Wpedantic -Werror -Iinclude"
-for program in fold_batch verify_batch; do
-    cc -std=c11 -O2 $flags -o "$folder/$program" "examples/c/$program.c" "$library"
+# ---- Compilers and standards
+flags=(-Wall -Wextra -Wpedantic -Wconversion -Wsign-conversion -Wshadow -Wundef -Werror -Iinclude)
+plus=("${flags[@]}" -Wold-style-cast)
+ways=0
+for compiler in gcc clang; do
+    command -v $compiler >/dev/null || continue
+    for standard in c11 c17; do
+        for source in c/*.c tests/c/*.c examples/c/{fold_batch,verify_batch,decide_one}.c; do
+            $compiler -std=$standard "${flags[@]}" -Wstrict-prototypes -fsyntax-only $source
+        done
+        ways=$((ways + 1))
+    done
 done
-echo '#include "lomvuze.h"' >"$folder/header.cc"
-c++ -std=c++11 $flags -fsyntax-only "$folder/header.cc"
+for compiler in g++ clang++; do
+    command -v $compiler >/dev/null || continue
+    for standard in c++11 c++14 c++17 c++20; do
+        $compiler -std=$standard "${plus[@]}" -fsyntax-only tests/c/containers.cc
+        $compiler -std=$standard "${plus[@]}" -fsyntax-only -x c++ tests/c/lengths.c
+        ways=$((ways + 1))
+    done
+done
+[ "$ways" -gt 0 ] || { echo 'FAILED: no compiler was found'; exit 1; }
+echo "C and C++: no warning under $ways compilers and standards"
+
+# ---- What the headers have beside the calls
+cc -std=c11 -O1 "${flags[@]}" -o "$folder/lengths" tests/c/lengths.c
+cc -std=c11 -O1 "${flags[@]}" -o "$folder/plain" tests/c/plain.c $library
+c++ -std=c++11 -O1 "${plus[@]}" -o "$folder/containers" tests/c/containers.cc $library
+c++ -std=c++11 -O1 "${plus[@]}" -o "$folder/lengths_plus" -x c++ tests/c/lengths.c
+for program in lengths lengths_plus plain containers; do
+    ${LOMVUZE_RUN:-} "$folder/$program" || { echo "FAILED: $program"; exit 1; }
+done
+
+# ---- The examples
+for program in fold_batch verify_batch; do
+    cc -std=c11 -O2 "${flags[@]}" -o "$folder/$program" "examples/c/$program.c" $library
+done
 
 # Runs a program on a file: its exit status and its output are as expected.
 expect() {
@@ -36,50 +67,74 @@ damage() {
     printf "$3" | dd of="$folder/damaged.bin" bs=1 seek="$2" conv=notrunc status=none
 }
 
-# ---- fold_batch
+# fold_batch.
 # Header: 44 bytes. Circuit: 15 entries of 12. Items: 8 of 60. Witnesses: 8 of 32. Positions: 64.
 expect fold_batch examples/c/statements.bin 0 "$(cat examples/c/fold_batch.expected)"
 statements=$(sed '/^challenge/,$d' examples/c/fold_batch.expected)
 challenge=$(grep '^challenge' examples/c/fold_batch.expected)
+none='no item is covered'
 damage statements.bin 704 '\000\000\000\000' # the first number of item 0's witness
 expect fold_batch "$folder/damaged.bin" 1 "$statements
 $challenge
-fold 10: a root is not that of its witness"
+fold 10: a root is not that of its witness
+$none"
 damage statements.bin 28 '\007\000\000\000' # the challenge 7, below l
 expect fold_batch "$folder/damaged.bin" 1 "$statements
 challenge: 7
-fold 5: the challenge is not permitted"
+fold 5: the challenge is not permitted
+$none"
+damage statements.bin 284 '\001\000\000\000' # item 1's e
+expect fold_batch "$folder/damaged.bin" 1 "$statements
+$challenge
+item 1: e = 1, which is no fresh statement
+$none"
 expect fold_batch examples/c/batch.bin 2 ""
 
-# ---- verify_batch
-accepted="verify 0: accepted
-decide 0: accepted"
-expect verify_batch examples/c/batch.bin 0 "$accepted"
+# verify_batch.
+expect verify_batch examples/c/batch.bin 0 "$(tail -n 3 examples/c/fold_batch.expected)"
 
 # Header: 44 bytes. Circuit: 15 entries of 12. Items: 8 of 60. Positions: 64. Quotient: 84. New item: 60. Openings: 144 of 164. Witness: 32.
 damage batch.bin 28 '\007\000\000\000' # the challenge 7, a node
 expect verify_batch "$folder/damaged.bin" 1 "verify 5: the challenge is not permitted
-decide 0: accepted"
+decide 0: accepted
+$none"
 damage batch.bin 44 '\004' # the first entry of A in row 4 of 4
 expect verify_batch "$folder/damaged.bin" 1 "verify 0: accepted
-decide 4: a circuit entry is outside or out of order"
+decide 4: a circuit entry is outside or out of order
+$none"
 damage batch.bin 224 '\001\000\000\000' # item 0's e
-expect verify_batch "$folder/damaged.bin" 1 "verify 7: the new item is not the one of the challenge
-decide 0: accepted"
+expect verify_batch "$folder/damaged.bin" 1 "item 0: e = 1, which is no fresh statement
+verify 7: the new item is not the one of the challenge
+decide 0: accepted
+$none"
 damage batch.bin 704 '\040' # position 32 of 32
 expect verify_batch "$folder/damaged.bin" 1 "verify 6: a position is outside the codeword
-decide 0: accepted"
+decide 0: accepted
+$none"
 damage batch.bin 912 '\377\377\377\377' # the first opened value
 expect verify_batch "$folder/damaged.bin" 1 "verify 3: an element is p or more
-decide 0: accepted"
+decide 0: accepted
+$none"
 damage batch.bin 916 '\000\000\000\000' # the first sibling digest of the first opening
 expect verify_batch "$folder/damaged.bin" 1 "verify 8: an opening does not lead to its root
-decide 0: accepted"
+decide 0: accepted
+$none"
 damage batch.bin 24528 '\000\000\000\000' # the first number of the new witness
 expect verify_batch "$folder/damaged.bin" 1 "verify 0: accepted
-decide 10: a root is not that of its witness"
+decide 10: a root is not that of its witness
+$none"
 damage batch.bin 8 '\007' # m = 7
 expect verify_batch "$folder/damaged.bin" 2 ""
 head -c 1000 examples/c/batch.bin >"$folder/damaged.bin"
 expect verify_batch "$folder/damaged.bin" 2 ""
+
+# Sizes and counts of a header, all but the challenge, with which a length would wrap.
+for offset in 8 12 16 20 24 32 36 40; do
+    for number in '\000\000\000\100' '\001\000\000\100' '\000\000\000\200' '\377\377\377\377' '\000\000\000\000'; do
+        damage statements.bin $offset "$number"
+        expect fold_batch "$folder/damaged.bin" 2 ""
+        damage batch.bin $offset "$number"
+        expect verify_batch "$folder/damaged.bin" 2 ""
+    done
+done
 echo "C examples: $passed runs as expected"

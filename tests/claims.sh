@@ -1,12 +1,21 @@
 #!/usr/bin/env bash
-# The program claims on stored sheets and on sheets at the edges. LOMVUZE_BIN names another folder with the program in it; nothing is built there.
+# The program claims on stored sheets and on sheets at the edges, the program root, and the commands of docs/SHEETS.md. LOMVUZE_BIN and
+# LOMVUZE_STATICLIB name other folders with the program claims and with libverdicts.a in them; nothing is built there.
 set -euo pipefail
 cd "$(dirname "$0")/.."
 if [ -z "${LOMVUZE_BIN:-}" ]; then
     rt check claims
 fi
+if [ -z "${LOMVUZE_STATICLIB:-}" ]; then
+    rt staticlib verdicts
+fi
 claims="${LOMVUZE_BIN:-target/bin}/claims"
+folder=$(mktemp -d)
+trap 'rm -rf "$folder"' EXIT
+root="$folder/root"
+cc -std=c11 -O2 -Wall -Wextra -Wpedantic -Werror -Iinclude -o "$root" examples/c/root.c c/lomvuze.c "${LOMVUZE_STATICLIB:-target/staticlib}/libverdicts.a"
 passed=0
+fail() { printf 'FAILED: %s\n' "$1"; exit 1; }
 
 # Runs the program on standard input: its output is as expected, to the byte.
 expect() {
@@ -21,15 +30,13 @@ expect() {
 sheet=examples/sheets/printed.sheet
 listing=$(cat examples/sheets/printed.listing)
 
-expect 'the printed sheet' "$listing" <$sheet
 expect 'no last byte 10' "$listing" < <(head -c -1 $sheet)
 expect 'in pieces' "$listing" < <(while IFS= read -r line; do printf '%s\n' "$line"; sleep 0.01; done <$sheet)
-for number in 1 2 3 4; do
-    expect "refused-$number" $'refused\t'$number <examples/sheets/refused-$number.sheet
+for stored in examples/sheets/*.sheet; do
+    expect "$stored" "$(cat "${stored%.sheet}.listing")" <"$stored"
 done
 expect 'an empty sheet' $'refused\t1' </dev/null
 expect 'no pair' $'refused\t2' < <(sed '/^item/d; /^wit/d; s/^end.*/end\t0/' $sheet)
-expect 'carriage returns' $'refused\t1' < <(sed 's/$/\r/' $sheet)
 expect '100 million bytes' $'refused\t1' < <(head -c 100000000 /dev/zero 2>/dev/null)
 
 # A sheet of so many bytes, near 60,000: 64 pairs of m = 6, n = 64, k = 32, and entries of A of ten bytes each, the last one longer by what is left.
@@ -52,18 +59,49 @@ long() {
     }'
 }
 length_of() { long "$1" | wc -c; }
-[ "$(length_of 60000)" = 60000 ] && [ "$(length_of 60001)" = 60001 ] || { echo "FAILED: the long sheets have $(length_of 60000) and $(length_of 60001) bytes"; exit 1; }
-[ "$("$claims" < <(long 60000) | head -1)" = $'claims\t64' ] || { echo 'FAILED: 60,000 bytes are not accepted'; exit 1; }
-[ "$("$claims" < <(long 60000) | wc -l)" = 65 ] || { echo 'FAILED: 60,000 bytes: not every item is listed'; exit 1; }
+[ "$(length_of 60000)" = 60000 ] && [ "$(length_of 60001)" = 60001 ] || fail "the long sheets have $(length_of 60000) and $(length_of 60001) bytes"
+[ "$("$claims" < <(long 60000) | head -1)" = $'claims\t64' ] || fail '60,000 bytes are not accepted'
+[ "$("$claims" < <(long 60000) | wc -l)" = 65 ] || fail '60,000 bytes: not every item is listed'
 expect '60,001 bytes' $'refused\t1' < <(long 60001)
 passed=$((passed + 2))
 
 # A slow reader of the pipe gets all of the listing; a closed output ends the program.
-[ "$("$claims" < <(long 60000) | (sleep 0.2; cat) | md5sum)" = "$("$claims" < <(long 60000) | md5sum)" ] || { echo 'FAILED: a slow reader gets another listing'; exit 1; }
+[ "$("$claims" < <(long 60000) | (sleep 0.2; cat) | md5sum)" = "$("$claims" < <(long 60000) | md5sum)" ] || fail 'a slow reader gets another listing'
 timeout 10 "$claims" <$sheet >&- && status=0 || status=$?
-[ "$status" != 124 ] || { echo 'FAILED: a closed output does not end the program'; exit 1; }
+[ "$status" != 124 ] || fail 'a closed output does not end the program'
 passed=$((passed + 2))
 
-# The worked example of docs/AUDIT.md.
-expect 'case 8' "$(cat examples/sheets/case-8.listing)" <examples/sheets/case-8.sheet
+# The sheets with faults that cannot be seen, repaired as docs/SHEETS.md says, are the good one.
+rooted=examples/sheets/rooted.sheet
+tr -d '\r' <examples/sheets/crlf.sheet | cmp - $rooted
+tail -c +4 examples/sheets/bom.sheet | cmp - $rooted
+tr ' ' '\t' <examples/sheets/spaces.sheet | cmp - $rooted
+{ cat examples/sheets/no-end.sheet; printf 'end\t2\n'; } | cmp - $rooted
+passed=$((passed + 4))
+
+# The root of a witness, and what the program says to other arguments.
+refuses() { # refuses STATUS ARGUMENT...
+    local status=0
+    "$root" "${@:2}" >"$folder/out" 2>/dev/null || status=$?
+    [ "$status" = "$1" ] && [ ! -s "$folder/out" ] || fail "root ${*:2}: status $status"
+    passed=$((passed + 1))
+}
+refuses 1 2 3 4             # no power of two
+refuses 1 2 2013265921      # p
+refuses 2
+refuses 2 2 -3
+refuses 2 2 4294967296
+refuses 2 $(seq 65)
+
+# Every command of docs/SHEETS.md, with what stands below it. A block of commands is followed by a block of output; the programs are those tested here.
+pages=0
+while IFS= read -r -d '' commands && IFS= read -r -d '' output; do
+    commands=$(sed "/^make /d; s|target/bin/claims|'$claims'|; s|target/root|'$root'|" <<<"$commands")
+    [ "$(bash -c "$commands")" = "$output" ] || fail "docs/SHEETS.md has another output of: $commands"
+    pages=$((pages + 1))
+done < <(awk '
+    /^    / { sub(/^ +/, ""); block = block (block == "" ? "" : "\n") $0; next }
+    block != "" { printf "%s%c", block, 0; block = "" }' docs/SHEETS.md)
+[ "$pages" -ge 9 ] || fail "docs/SHEETS.md: $pages commands found"
+passed=$((passed + pages))
 echo "claims: $passed runs as expected"

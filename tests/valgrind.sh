@@ -1,5 +1,5 @@
 #!/usr/bin/env bash
-# Valgrind must report nothing: on the C examples, as tests/c.sh runs them, and on the edges of every call (rust/samples/edges.rs), whose buffers
+# Valgrind must report nothing: on the programs that tests/c.sh runs, and on the edges of every call (rust/samples/edges.rs), whose buffers
 # are as long as they are said to be and no longer. On an error the exit status is 9, which no run expects; reports are left in
 # target/valgrind. It needs valgrind, a C compiler and Rust, and is no part of the gate.
 set -euo pipefail

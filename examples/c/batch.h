@@ -1,9 +1,10 @@
 /*
- * What both programs need: a stored file part by part, the numbers in it, and what an answer means (README.md gives the formats).
+ * What both programs need: a stored file part by part, the numbers in it, and how an answer is printed (README.md gives the formats).
  */
 #ifndef BATCH_H
 #define BATCH_H
 
+#include <inttypes.h>
 #include <stdbool.h>
 #include <stdio.h>
 #include <string.h>
@@ -69,8 +70,8 @@ static inline bool refuse(const char *why) {
 }
 
 /*
- * Reads a file that starts with the given letters, and takes its front. Sizes that are not permitted are for the calls to refuse; here it
- * matters only that a part lies in the file.
+ * Reads a file that starts with the given letters, and takes its front. A part lies in the file or is not there: sizes that are not permitted
+ * give a length that no file has.
  */
 static inline bool start(const char *name, const char *letters, struct front *front, struct rest *rest) {
   FILE *stream = fopen(name, "rb");
@@ -100,33 +101,38 @@ static inline bool start(const char *name, const char *letters, struct front *fr
 
 /* Whether the parts taken are the whole file. */
 static inline bool finished(const struct rest *rest) {
-  if (!rest->complete) return refuse("it is too short");
+  if (!rest->complete) return refuse("it is too short, or has a size that is not permitted");
   if (rest->length != 0) return refuse("it is too long");
   return true;
 }
 
-static inline const char *meaning(uint32_t answer) {
-  switch (answer) {
-    case LOMVUZE_ACCEPTED: return "accepted";
-    case LOMVUZE_SHEET: return "the sheet is over 60,000 bytes or breaks the line rules";
-    case LOMVUZE_SIZE: return "a size, count or length is not permitted";
-    case LOMVUZE_ELEMENT: return "an element is p or more";
-    case LOMVUZE_CIRCUIT: return "a circuit entry is outside or out of order";
-    case LOMVUZE_CHALLENGE: return "the challenge is not permitted";
-    case LOMVUZE_POSITION: return "a position is outside the codeword";
-    case LOMVUZE_NEW_ITEM: return "the new item is not the one of the challenge";
-    case LOMVUZE_OPENING: return "an opening does not lead to its root";
-    case LOMVUZE_COMBINATION: return "a new opened value is no combination";
-    case LOMVUZE_ROOT: return "a root is not that of its witness";
-    case LOMVUZE_CLAIM: return "an item does not hold";
-    default: return "unknown";
+/*
+ * Whether each item is a fresh statement: its e is 0. Any other e has to be the result of a fold that was verified, and the file has none.
+ * Sizes are permitted, since the items lie in the file.
+ */
+static inline bool fresh(const struct front *front) {
+  for (uint32_t i = 0; i < front->l; i++) {
+    uint32_t e = number(front->items.bytes + LOMVUZE_ITEMS_BYTES(front->m, front->n, i));
+    if (e == 0) continue;
+    printf("item %" PRIu32 ": e = %" PRIu32 ", which is no fresh statement\n", i, e);
+    return false;
   }
+  return true;
 }
 
 /* Prints the answer of a call; whether it is 0. */
 static inline bool report(const char *call, uint32_t answer) {
-  printf("%s %u: %s\n", call, (unsigned)answer, meaning(answer));
+  printf("%s %" PRIu32 ": %s\n", call, answer, lomvuze_strerror(answer));
   return answer == LOMVUZE_ACCEPTED;
+}
+
+/* Says which items the verdict covers: all l, where nothing was refused, and else none. The exit status. */
+static inline int conclude(bool accepted, uint32_t l) {
+  if (accepted)
+    printf("the verdict covers items 0 to %" PRIu32 ": all %" PRIu32 " of the file\n", l - 1, l);
+  else
+    printf("no item is covered\n");
+  return accepted ? 0 : 1;
 }
 
 #endif

@@ -8,15 +8,16 @@ int main(void) {
   const uint8_t a[12] = {0, 0, 0, 0, 1, 0, 0, 0, 1};
   const uint8_t b[12] = {0, 0, 0, 0, 2, 0, 0, 0, 1};
   const uint8_t c[12] = {0, 0, 0, 0, 0, 0, 0, 0, 1};
-  const uint8_t r[1] = {0}; /* m = 0: r is empty */
   const uint8_t x[4] = {6};
   const uint8_t w[8] = {2, 0, 0, 0, 3};
   uint8_t item[LOMVUZE_ITEM_BYTES(0, 1)];
-  uint32_t answer = lomvuze_cast(0, 1, 2, a, sizeof a, b, sizeof b, c, sizeof c, r, 0, x, sizeof x, w, sizeof w,
+  /* m = 0: r is empty. */
+  uint32_t answer = lomvuze_cast(0, 1, 2, a, sizeof a, b, sizeof b, c, sizeof c, LOMVUZE_EMPTY, x, sizeof x, w, sizeof w,
                                  item, sizeof item);
-  printf("cast %" PRIu32 "\n", answer);
+  printf("cast %" PRIu32 ": %s\n", answer, lomvuze_strerror(answer));
   if (answer != LOMVUZE_ACCEPTED) return 1;
   answer = lomvuze_decide(0, 1, 2, a, sizeof a, b, sizeof b, c, sizeof c, item, sizeof item, w, sizeof w);
-  printf("decide %" PRIu32 "\n", answer);
+  printf("decide %" PRIu32 ": %s\n", answer, lomvuze_strerror(answer));
+  puts(answer == LOMVUZE_ACCEPTED ? "the verdict covers this one item" : "no item is covered");
   return answer == LOMVUZE_ACCEPTED ? 0 : 1;
 }

@@ -4,19 +4,17 @@
  *
  *   fold_batch FILE
  *
- * Prints what is folded and the answer of each call, and stops at the first one that is not 0. Exit status: 0 where every answer is 0, 1 where
- * one is not, 2 where FILE has no statements.
+ * Prints what is folded and the answer of each call, and stops at the first one that is not 0, or at an item with an e that is not 0. The
+ * last line says which items the verdict covers. Exit status: 0 where it covers them, 1 where it covers none, 2 where FILE has no statements.
  */
-#include <inttypes.h>
-
 #include "batch.h"
 
 /* What the calls write, at the greatest sizes. */
 static uint8_t quotient[LOMVUZE_QUOTIENT_BYTES(LOMVUZE_MAX_M, LOMVUZE_MAX_L)];
 static uint8_t new_item[LOMVUZE_ITEM_BYTES(LOMVUZE_MAX_M, LOMVUZE_MAX_N)];
 static uint8_t new_witness[LOMVUZE_WITNESS_BYTES(LOMVUZE_MAX_K)];
-static uint8_t opened[LOMVUZE_OPENINGS_BYTES(LOMVUZE_MAX_K, LOMVUZE_MAX_T(LOMVUZE_MAX_K))];
-static uint8_t openings[LOMVUZE_ALL_OPENINGS_BYTES(LOMVUZE_MAX_K, LOMVUZE_MAX_L, LOMVUZE_MAX_T(LOMVUZE_MAX_K))];
+static uint8_t opened[LOMVUZE_ALL_OPENINGS_BYTES(LOMVUZE_MAX_K, LOMVUZE_MAX_L, LOMVUZE_MAX_T(LOMVUZE_MAX_K))];
+static uint8_t openings[sizeof opened];
 
 /* The length that the sizes give a buffer, or the buffer's own if that is less: then a size is not permitted, and the call says so. */
 static size_t within(size_t length, size_t most) { return length < most ? length : most; }
@@ -42,18 +40,54 @@ static void print_statements(const struct front *f) {
   printf("challenge: %" PRIu32 "\n", f->challenge);
 }
 
-/* Opens a witness, and puts its openings where those of item i belong: position by position and, within one, item by item. */
+/* Opens a witness: item i's, or the new one where i is l. */
 static bool open_witness(const struct front *f, uint32_t i, const uint8_t *witness, struct part positions) {
-  size_t each = LOMVUZE_OPENING_BYTES(f->k);
+  size_t each = within(LOMVUZE_OPENINGS_BYTES(f->k, f->t), sizeof opened / (LOMVUZE_MAX_L + 1));
   char call[32] = "new item, open";
   if (i < f->l) snprintf(call, sizeof call, "item %" PRIu32 ", open", i);
-  if (!report(call, lomvuze_open(f->k, f->t,
-                                 witness, LOMVUZE_WITNESS_BYTES(f->k),
-                                 positions.bytes, positions.length,
-                                 opened, within(LOMVUZE_OPENINGS_BYTES(f->k, f->t), sizeof opened))))
-    return false;
-  for (size_t q = 0; q < f->t; q++) memcpy(openings + (q * (f->l + 1) + i) * each, opened + q * each, each);
-  return true;
+  return report(call, lomvuze_open(f->k, f->t,
+                                   witness, LOMVUZE_WITNESS_BYTES(f->k),
+                                   positions.bytes, positions.length,
+                                   opened + i * each, each));
+}
+
+/* Opens all witnesses, and puts the openings in the order in which they are verified. */
+static bool open_all(const struct front *f, const uint8_t *witnesses, struct part positions) {
+  for (uint32_t i = 0; i < f->l; i++)
+    if (!open_witness(f, i, witnesses + LOMVUZE_WITNESSES_BYTES(f->k, i), positions)) return false;
+  if (!open_witness(f, f->l, new_witness, positions)) return false;
+  size_t all = LOMVUZE_ALL_OPENINGS_BYTES(f->k, f->l, f->t);
+  return report("interleave", lomvuze_interleave(f->k, f->l, f->t, opened, all, openings, all));
+}
+
+static bool fold(const struct front *f, struct part witnesses) {
+  return report("fold", lomvuze_fold(f->m, f->n, f->k, f->l, f->challenge,
+                                     f->a.bytes, f->a.length,
+                                     f->b.bytes, f->b.length,
+                                     f->c.bytes, f->c.length,
+                                     f->items.bytes, f->items.length,
+                                     witnesses.bytes, witnesses.length,
+                                     quotient, within(LOMVUZE_QUOTIENT_BYTES(f->m, f->l), sizeof quotient),
+                                     new_item, within(LOMVUZE_ITEM_BYTES(f->m, f->n), sizeof new_item),
+                                     new_witness, within(LOMVUZE_WITNESS_BYTES(f->k), sizeof new_witness)));
+}
+
+static bool verify(const struct front *f, struct part positions) {
+  return report("verify", lomvuze_verify(f->m, f->n, f->k, f->l, f->t, f->challenge,
+                                         f->items.bytes, f->items.length,
+                                         positions.bytes, positions.length,
+                                         quotient, LOMVUZE_QUOTIENT_BYTES(f->m, f->l),
+                                         new_item, LOMVUZE_ITEM_BYTES(f->m, f->n),
+                                         openings, LOMVUZE_ALL_OPENINGS_BYTES(f->k, f->l, f->t)));
+}
+
+static bool decide(const struct front *f) {
+  return report("decide", lomvuze_decide(f->m, f->n, f->k,
+                                         f->a.bytes, f->a.length,
+                                         f->b.bytes, f->b.length,
+                                         f->c.bytes, f->c.length,
+                                         new_item, LOMVUZE_ITEM_BYTES(f->m, f->n),
+                                         new_witness, LOMVUZE_WITNESS_BYTES(f->k)));
 }
 
 int main(int argc, char **argv) {
@@ -69,37 +103,8 @@ int main(int argc, char **argv) {
   if (!finished(&rest)) return 2;
   print_statements(&f);
 
-  if (!report("fold", lomvuze_fold(f.m, f.n, f.k, f.l, f.challenge,
-                                   f.a.bytes, f.a.length,
-                                   f.b.bytes, f.b.length,
-                                   f.c.bytes, f.c.length,
-                                   f.items.bytes, f.items.length,
-                                   witnesses.bytes, witnesses.length,
-                                   quotient, within(LOMVUZE_QUOTIENT_BYTES(f.m, f.l), sizeof quotient),
-                                   new_item, within(LOMVUZE_ITEM_BYTES(f.m, f.n), sizeof new_item),
-                                   new_witness, within(LOMVUZE_WITNESS_BYTES(f.k), sizeof new_witness))))
-    return 1;
+  if (!fresh(&f) || !fold(&f, witnesses)) return conclude(false, f.l);
   printf("%" PRIu32 " items folded into one: e = %" PRIu32 ", ", f.l, number(new_item));
   print_x(&f, new_item);
-
-  /* The sizes m, n, k and l are permitted from here on. */
-  for (uint32_t i = 0; i < f.l; i++)
-    if (!open_witness(&f, i, witnesses.bytes + i * LOMVUZE_WITNESS_BYTES(f.k), positions)) return 1;
-  if (!open_witness(&f, f.l, new_witness, positions)) return 1;
-
-  if (!report("verify", lomvuze_verify(f.m, f.n, f.k, f.l, f.t, f.challenge,
-                                       f.items.bytes, f.items.length,
-                                       positions.bytes, positions.length,
-                                       quotient, LOMVUZE_QUOTIENT_BYTES(f.m, f.l),
-                                       new_item, LOMVUZE_ITEM_BYTES(f.m, f.n),
-                                       openings, LOMVUZE_ALL_OPENINGS_BYTES(f.k, f.l, f.t))))
-    return 1;
-  return report("decide", lomvuze_decide(f.m, f.n, f.k,
-                                         f.a.bytes, f.a.length,
-                                         f.b.bytes, f.b.length,
-                                         f.c.bytes, f.c.length,
-                                         new_item, LOMVUZE_ITEM_BYTES(f.m, f.n),
-                                         new_witness, LOMVUZE_WITNESS_BYTES(f.k)))
-             ? 0
-             : 1;
+  return conclude(open_all(&f, witnesses.bytes, positions) && verify(&f, positions) && decide(&f), f.l);
 }

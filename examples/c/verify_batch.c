@@ -3,7 +3,8 @@
  *
  *   verify_batch FILE
  *
- * Prints the answer of each call. Exit status: 0 where every answer is 0, 1 where one is not, 2 where FILE is no batch.
+ * Prints the answer of each call and, on the last line, which items the verdict covers. Exit status: 0 where it covers them, 1 where it
+ * covers none, 2 where FILE is no batch.
  */
 #include "batch.h"
 
@@ -22,6 +23,7 @@ int main(int argc, char **argv) {
   struct part witness = take(&rest, LOMVUZE_WITNESS_BYTES(f.k));
   if (!finished(&rest)) return 2;
 
+  bool statements = fresh(&f);
   bool verified = report("verify", lomvuze_verify(f.m, f.n, f.k, f.l, f.t, f.challenge,
                                                   f.items.bytes, f.items.length,
                                                   positions.bytes, positions.length,
@@ -34,5 +36,5 @@ int main(int argc, char **argv) {
                                                  f.c.bytes, f.c.length,
                                                  item.bytes, item.length,
                                                  witness.bytes, witness.length));
-  return verified && decided ? 0 : 1;
+  return conclude(statements && verified && decided, f.l);
 }

@@ -4,7 +4,7 @@
 use std::path::PathBuf;
 
 fn main() {
-    let folder = match std::env::var_os("LOMVUZE_STATICLIB") {
+    let folder = match std::env::var_os("LOMVUZE_STATICLIB").filter(|name| !name.is_empty()) {
         Some(folder) => PathBuf::from(folder),
         None => PathBuf::from(std::env::var_os("CARGO_MANIFEST_DIR").unwrap()).join("../../target/staticlib"),
     };

@@ -6,13 +6,13 @@ use Prim.Native.Nat.{ℕ, suc}
 use Rattle.algebra.specs.Lists.{build, concatTo}
 use Rattle.code.specs.Points.{depth}
 use Rattle.theory.specs.Checks.{written}
-use Rattle.theory.specs.Calls.{Folded, Opened}
-use Rattle.theory.specs.Statements.{PermittedPositions, verifying, deciding}
-use Rattle.theory.specs.Fp.{fp, inOrder, foldOutputsFit, fold, verify, decide, Honest, PermittedChallenge}
+use Rattle.theory.specs.Results.{Folded, Opened}
+use Rattle.theory.specs.Statements.{Honest, PermittedChallenge, PermittedPositions, verifying, deciding}
+use Rattle.theory.specs.Fp.{fp, inOrder, foldOutputsFit, fold, witnessOpenings, interleaveFits, verify, decide}
 use Rattle.theory.proofs.CheckLaws.{written-accepted}
 use Rattle.checks.proofs.Calls.{refused}
 use Rattle.chain.specs.Answers.{firstOf, firstRefusal}
-use Rattle.chain.specs.Chained.{openedSize, openedPart, openInto, openedFits, Chained, chainIf, chain}
+use Rattle.chain.specs.Chained.{openedSize, openInto, Chained, chainIf, chain}
 use Rattle.chain.proofs.Refusals.{refusal-append, firstOf-zero, first-refuses, first-passes}
 use Rattle.chain.proofs.HonestChain.{chain-runs, honest-zero}
 
@@ -23,8 +23,8 @@ module _ (m n k l t challenge : ℕ) (a b c items wits positions quotient item w
   -- The promise: the answer r, and what the buffers hold.
   abbrev pub Promised : ℕ → List ℕ → List ℕ → List ℕ → List ℕ → List ℕ → Type 0
   Promised r q i w o os =
-      (Honest m n k l a b c items wits → PermittedChallenge l challenge → PermittedPositions k t positions
-      → foldOutputsFit m n k l quotient item wit ≡ true → openedFits k l t opened openings ≡ true → r ≡ 0)
+      (Honest fp m n k l a b c items wits → PermittedChallenge fp l challenge → PermittedPositions k t positions
+      → foldOutputsFit m n k l quotient item wit ≡ true → interleaveFits k l t opened openings ≡ true → r ≡ 0)
       × ((r ≡ whole .answer)
       × ((q ≡ whole .quotient) × ((i ≡ whole .item) × ((w ≡ whole .wit) × ((o ≡ whole .opened) × (os ≡ whole .openings))))))
 
@@ -54,7 +54,7 @@ module _ (m n k l t challenge : ℕ) (a b c items wits positions quotient item w
         back field e = e ∙ ap field (sym is)
 
   -- Where the two buffers do not fit, no call is made.
-  pub none-called : openedFits k l t opened openings ≡ false → Promised 2 quotient item wit opened openings
+  pub none-called : interleaveFits k l t opened openings ≡ false → Promised 2 quotient item wit opened openings
   unfolding chain
   none-called h =
       promised 2 quotient item wit opened openings (chainIf m n k l t challenge a b c items wits positions quotient item wit opened openings false)
@@ -71,7 +71,7 @@ module _ (m n k l t challenge : ℕ) (a b c items wits positions quotient item w
   answersWith w = build (suc l) (λ j. openedWith w j .answer)
 
   -- The two buffers fit: folding answers f and leaves q, i and w.
-  module _ (fit : openedFits k l t opened openings ≡ true) (f : ℕ) (q i w : List ℕ)
+  module _ (fit : interleaveFits k l t opened openings ≡ true) (f : ℕ) (q i w : List ℕ)
       (answers : f ≡ folded .answer) (wrote-quotient : q ≡ folded .quotient) (wrote-item : i ≡ folded .item) (wrote-wit : w ≡ folded .wit) where
     abbrev ran : Chained
     ran = chainIf m n k l t challenge a b c items wits positions quotient item wit opened openings true
@@ -107,7 +107,7 @@ module _ (m n k l t challenge : ℕ) (a b c items wits positions quotient item w
           wrote-openings
           ∙ ap₂ (λ (r : ℕ) (v : List ℕ). written r (inOrder (depth k) t l (λ j. openedWith v j .openings)) openings) (first-passes (sym folds) refl open-answer) wrote-wit
 
-      answer-is : (r : ℕ) → r ≡ firstOf (firstRefusal (answersWith (folded .wit))) (firstRefusal (verifying fp m n k l t challenge a b c items wits positions quotient item wit (openedPart k t opened) ∷ deciding fp m n k l t challenge a b c items wits positions quotient item wit (openedPart k t opened) ∷ []))
+      answer-is : (r : ℕ) → r ≡ firstOf (firstRefusal (answersWith (folded .wit))) (firstRefusal (verifying fp m n k l t challenge a b c items wits positions quotient item wit (witnessOpenings k t opened) ∷ deciding fp m n k l t challenge a b c items wits positions quotient item wit (witnessOpenings k t opened) ∷ []))
           → r ≡ ran .answer
       answer-is r e = first-passes (sym folds) refl (e ∙ sym (refusal-append (answersWith (folded .wit)) _))
 
@@ -123,12 +123,12 @@ module _ (m n k l t challenge : ℕ) (a b c items wits positions quotient item w
             ∙ written-accepted _ openings opens
             ∙ ap (λ (v : List ℕ). inOrder (depth k) t l (λ j. openedWith v j .openings)) wrote-wit
 
-        verified : verify m n k l t challenge items positions q i os ≡ verifying fp m n k l t challenge a b c items wits positions quotient item wit (openedPart k t opened)
+        verified : verify m n k l t challenge items positions q i os ≡ verifying fp m n k l t challenge a b c items wits positions quotient item wit (witnessOpenings k t opened)
         verified =
             ap₂ (λ (x y : List ℕ). verify m n k l t challenge items positions x y os) wrote-quotient wrote-item
             ∙ ap (verify m n k l t challenge items positions (folded .quotient) (folded .item)) ordered
 
-        decided : decide m n k a b c i w ≡ deciding fp m n k l t challenge a b c items wits positions quotient item wit (openedPart k t opened)
+        decided : decide m n k a b c i w ≡ deciding fp m n k l t challenge a b c items wits positions quotient item wit (witnessOpenings k t opened)
         decided = ap₂ (decide m n k a b c) wrote-item wrote-wit
 
         pub all-called : Promised r q i w o os

@@ -5,32 +5,32 @@ use mathlib.Core.List.{List}
 use Prim.Native.Nat.{ℕ, suc}
 use borrow.Author.Tests.{eq-eqb}
 use lib.ListN.{length}
-use Rattle.theory.specs.Statements.{PermittedPositions, OutputsFit}
-use Rattle.theory.specs.Fp.{fp, foldOutputsFit, Honest, PermittedChallenge, chainAnswers}
+use Rattle.theory.specs.Statements.{Honest, PermittedChallenge, PermittedPositions, OutputsFit, chainAnswers}
+use Rattle.theory.specs.Fp.{fp, foldOutputsFit, witnessOpenings, interleaveFits}
 use Rattle.theory.proofs.Parts.{length-part, part-within}
 use Rattle.theory.proofs.FirstStatement.{first-statement}
-use Rattle.chain.specs.Chained.{openedSize, openedPart, openedFits, Chained, chainIf, chain}
-use Rattle.chain.proofs.Lengths.{fitting}
+use Rattle.encoder.proofs.Accepted.{interleave-fits}
+use Rattle.chain.specs.Chained.{openedSize, Chained, chainIf, chain}
 use Rattle.chain.proofs.Refusals.{refusal-none}
 
 module _ (m n k l t challenge : ℕ) (a b c items wits positions quotient item wit opened openings : List ℕ) where
   -- The two buffers have their lengths.
-  pub chain-runs : openedFits k l t opened openings ≡ true
+  pub chain-runs : interleaveFits k l t opened openings ≡ true
       → chain m n k l t challenge a b c items wits positions quotient item wit opened openings ≡ chainIf m n k l t challenge a b c items wits positions quotient item wit opened openings true
   unfolding chain
   chain-runs h = ap (chainIf m n k l t challenge a b c items wits positions quotient item wit opened openings) h
 
-  module _ (honest : Honest m n k l a b c items wits) (permitted : PermittedChallenge l challenge) (allowed : PermittedPositions k t positions)
-      (outputs-fit : foldOutputsFit m n k l quotient item wit ≡ true) (both-fit : openedFits k l t opened openings ≡ true) where
-    outputs : OutputsFit fp m n k l t quotient item wit (openedPart k t opened)
+  module _ (honest : Honest fp m n k l a b c items wits) (permitted : PermittedChallenge fp l challenge) (allowed : PermittedPositions k t positions)
+      (outputs-fit : foldOutputsFit m n k l quotient item wit ≡ true) (both-fit : interleaveFits k l t opened openings ≡ true) where
+    outputs : OutputsFit fp m n k l t quotient item wit (witnessOpenings k t opened)
     outputs = record {
       folding = outputs-fit;
       opening = λ i h. eq-eqb _ _ (length-part opened _ (openedSize k t)
-          (part-within (suc l) i (openedSize k t) (length opened) h (fitting k l t opened openings both-fit .opened-size)));
+          (part-within (suc l) i (openedSize k t) (length opened) h (interleave-fits k l t opened openings both-fit .opened-length)));
     }
 
     pub honest-zero : chain m n k l t challenge a b c items wits positions quotient item wit opened openings .answer ≡ 0
     honest-zero =
         ap (λ (x : Chained). x .answer) (chain-runs both-fit)
-        ∙ refusal-none (chainAnswers m n k l t challenge a b c items wits positions quotient item wit (openedPart k t opened))
-        (first-statement m n k l t challenge a b c items wits positions quotient item wit (openedPart k t opened) honest permitted allowed outputs)
+        ∙ refusal-none (chainAnswers fp m n k l t challenge a b c items wits positions quotient item wit (witnessOpenings k t opened))
+        (first-statement m n k l t challenge a b c items wits positions quotient item wit (witnessOpenings k t opened) honest permitted allowed outputs)

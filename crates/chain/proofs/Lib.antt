@@ -1,7 +1,6 @@
-pub mod Filling
 pub mod Refusals
 pub mod Witnesses
 pub mod Lengths
-pub mod Ordering
+pub mod Shown
 pub mod HonestChain
 pub mod Chaining

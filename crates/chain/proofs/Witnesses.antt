@@ -10,12 +10,12 @@ use lib.Seq.{getD-at}
 use Rattle.algebra.specs.Lists.{build}
 use Rattle.algebra.proofs.ListLaws.{length-build, getD-build, build-cong}
 use Rattle.tree.specs.Layout.{part}
-use Rattle.theory.specs.Calls.{Opened}
+use Rattle.theory.specs.Results.{Opened}
 use Rattle.theory.specs.Fp.{witnessPart, «open»}
 use Rattle.chain.specs.Answers.{firstOf, firstRefusal}
-use Rattle.chain.specs.Parts.{replaced, Filled}
+use Rattle.encoder.specs.Parts.{replaced, Filled}
 use Rattle.chain.specs.Chained.{openItem, openInto}
-use Rattle.chain.proofs.Filling.{still, filled-cong, one-filled}
+use Rattle.encoder.proofs.Filling.{still, filled-cong, one-filled}
 use Rattle.chain.proofs.Refusals.{refusal-next}
 
 module _ (k t l size : ℕ) (wits positions opened : List ℕ) where

@@ -1,25 +1,21 @@
 -- The chain of calls of the first statement (paper 01, "The words of demand 3") in lent buffers: what it answers, and what each
--- buffer then holds. The buffer `opened` has a part for the openings of each witness, the new one's last; the buffer `openings`
--- takes them position by position and, within one, item by item.
-use mathlib.Core.Bool.{Bool, true, false, _&&_}
+-- buffer then holds. The buffers `opened` and `openings` are those of interleaving.
+use mathlib.Core.Bool.{Bool, true, false}
 use mathlib.Core.List.{List, [], _∷_, _++_}
 use Prim.Native.Nat.{ℕ, suc, _*_}
 use lib.ListN.{getD}
 use Rattle.algebra.specs.Lists.{build, concatTo}
 use Rattle.tree.specs.Layout.{part, openingSize}
-use Rattle.code.specs.Points.{isWitnessCount, depth}
+use Rattle.code.specs.Points.{depth}
 use Rattle.theory.specs.Checks.{written}
-use Rattle.theory.specs.Sizes.{itemCountFits, hasLength}
-use Rattle.theory.specs.Calls.{Folded, Opened}
-use Rattle.theory.specs.Fp.{witnessPart, inOrder, «open», folding, opening, chainAnswers}
+use Rattle.theory.specs.Results.{Folded, Opened}
+use Rattle.theory.specs.Statements.{folding, opening, chainAnswers}
+use Rattle.theory.specs.Fp.{fp, witnessPart, inOrder, «open», witnessOpenings, interleaveFits}
 use Rattle.chain.specs.Answers.{firstRefusal}
 
--- The bytes of the openings of one witness at t positions, and part i of the buffer `opened`.
+-- The bytes of the openings of one witness at t positions.
 abbrev pub openedSize : ℕ → ℕ → ℕ
 openedSize k t = t * openingSize (depth k)
-
-abbrev pub openedPart : ℕ → ℕ → List ℕ → ℕ → List ℕ
-openedPart k t opened i = part opened (i * openedSize k t) (openedSize k t)
 
 -- Opening the witness of item i into part i of a buffer whose parts have the given size.
 abbrev pub openItem : ℕ → ℕ → ℕ → List ℕ → List ℕ → List ℕ → ℕ → Opened
@@ -29,11 +25,6 @@ openItem k t size wits positions opened i = «open» k t (witnessPart k wits i) 
 abbrev pub openInto : ℕ → ℕ → ℕ → ℕ → List ℕ → List ℕ → List ℕ → List ℕ → ℕ → Opened
 openInto k t l size wits wit positions opened i =
     «open» k t (getD (build l (witnessPart k wits) ++ (wit ∷ [])) i []) positions (part opened (i * size) size)
-
--- Check 2 of the chain's own two buffers, opened and openings.
-abbrev pub openedFits : ℕ → ℕ → ℕ → List ℕ → List ℕ → Bool
-openedFits k l t opened openings =
-    isWitnessCount k && itemCountFits l && hasLength opened (suc l * openedSize k t) && hasLength openings (t * suc l * openingSize (depth k))
 
 pub record Chained : Type 0 where
   pub answer : ℕ
@@ -45,17 +36,17 @@ pub record Chained : Type 0 where
 
 module _ (m n k l t challenge : ℕ) (a b c items wits positions quotient item wit opened openings : List ℕ) where
   abbrev folded : Folded
-  folded = folding m n k l t challenge a b c items wits positions quotient item wit (openedPart k t opened)
+  folded = folding fp m n k l t challenge a b c items wits positions quotient item wit (witnessOpenings k t opened)
 
   abbrev openedAt : ℕ → Opened
-  openedAt i = opening m n k l t challenge a b c items wits positions quotient item wit (openedPart k t opened) i
+  openedAt i = opening fp m n k l t challenge a b c items wits positions quotient item wit (witnessOpenings k t opened) i
 
-  -- Where the chain's own two buffers do not fit, no call is made. Else the witnesses are opened if folding answers 0, and the openings
-  -- are put in order if every call so far does.
+  -- Where `opened` and `openings` do not pass interleaving's check 2, no call is made. Else the witnesses are opened if folding answers
+  -- 0, and the openings are interleaved if every call so far does.
   abbrev pub chainIf : Bool → Chained
   chainIf false = record { answer = 2; quotient = quotient; item = item; wit = wit; opened = opened; openings = openings }
   chainIf true = record {
-    answer = firstRefusal (chainAnswers m n k l t challenge a b c items wits positions quotient item wit (openedPart k t opened));
+    answer = firstRefusal (chainAnswers fp m n k l t challenge a b c items wits positions quotient item wit (witnessOpenings k t opened));
     quotient = folded .quotient;
     item = folded .item;
     wit = folded .wit;
@@ -64,4 +55,4 @@ module _ (m n k l t challenge : ℕ) (a b c items wits positions quotient item w
   }
 
   unfoldable pub chain : Chained
-  chain = chainIf (openedFits k l t opened openings)
+  chain = chainIf (interleaveFits k l t opened openings)

@@ -1,50 +1,20 @@
-// The chain of calls of paper 01's first statement, in lent buffers: folding, an opening for each witness, verifying, deciding.
+// The chain of calls of paper 01's first statement, in lent buffers: folding, an opening for each witness, interleaving them, verifying,
+// deciding.
 ghost use mathlib.Core.Path.{_≡_};
-ghost use mathlib.Core.Bool.{true, _&&_};
-ghost use Prim.Native.Nat.{suc, _*_, _≤_};
+ghost use mathlib.Core.Bool.{true};
+ghost use Prim.Native.Nat.{suc, _*_};
 ghost use lib.ListN.{length};
 ghost use Rattle.algebra.specs.Lists.{build, concatTo};
-ghost use Rattle.tree.specs.Layout.{openingSize};
-ghost use Rattle.code.specs.Points.{isWitnessCount, depth};
+ghost use Rattle.code.specs.Points.{depth};
 ghost use Rattle.theory.specs.Checks.{written};
-ghost use Rattle.theory.specs.Sizes.{hasLength};
-ghost use Rattle.theory.specs.Statements.{PermittedPositions};
-ghost use Rattle.theory.specs.Fp.{inOrder, foldOutputsFit, verify, decide, Honest, PermittedChallenge};
+ghost use Rattle.theory.specs.Statements.{Honest, PermittedChallenge, PermittedPositions};
+ghost use Rattle.theory.specs.Fp.{fp, inOrder, interleaveFits, foldOutputsFit, verify, decide};
 ghost use Rattle.chain.specs.Answers.{firstOf, firstRefusal};
-ghost use Rattle.chain.specs.Chained.{openedSize, openInto, openedFits, chain};
+ghost use Rattle.chain.specs.Chained.{openedSize, openInto, chain};
 
 mod opening;
-mod order;
 
-// The bytes of an opening.
-fn opening_size(k: usize) -> usize
-    requires { ⌜ isWitnessCount k ≡ true ⌝ }
-    ensures { λ r. ⌜ r ≡ openingSize (depth k) ⌝ }
-{
-    4 + 32 * code::depth_of(k)
-}
-
-// The lengths of the chain's own two buffers.
-fn sized(k: usize, l: usize, t: usize, opened: &[u8], openings: &[u8]) -> bool
-    requires { ⌜ (isWitnessCount k ≡ true) × (l ≤ 8) × (t ≤ 4294967295) ⌝ }
-    ensures { λ r. ⌜ r ≡ (hasLength (now (opened .entry)) (suc l * openedSize k t) && hasLength (now (openings .entry)) (t * suc l * openingSize (depth k))) ⌝ }
-{
-    let size = opening_size(k);
-    (opened.len() == (l + 1) * (t * size)) & (openings.len() == t * (l + 1) * size)
-}
-
-// Check 2 of the chain's own two buffers.
-fn fits(k: u32, l: u32, t: u32, opened: &[u8], openings: &[u8]) -> bool
-    ensures { λ r. ⌜ r ≡ openedFits k l t (now (opened .entry)) (now (openings .entry)) ⌝ }
-{
-    let counted = code::is_witness_count(k) & checks::sizes::item_count_fits(l);
-    if !counted {
-        return false;
-    }
-    sized(k as usize, l as usize, t as usize, opened, openings)
-}
-
-// Opens each witness into its part of opened and, where every call answers 0, puts the openings in order.
+// Opens each witness into its part of opened and, where every call answers 0, interleaves the openings.
 fn show(
     k: u32,
     l: u32,
@@ -55,20 +25,17 @@ fn show(
     opened: &mut [u8],
     openings: &mut [u8],
 ) -> u32
-    requires { ⌜ (isWitnessCount k ≡ true) × (l ≤ 8) × (length (now wits) ≡ l * (4 * k)) × (length (now opened) ≡ suc l * openedSize k t) × (length (now openings) ≡ t * suc l * openingSize (depth k)) ⌝ }
+    requires { ⌜ (length (now wits) ≡ l * (4 * k)) × (interleaveFits k l t (now opened) (now openings) ≡ true) ⌝ }
     ensures { λ r. ⌜ r ≡ firstRefusal (build (suc l) (λ i. openInto k t l (openedSize k t) (now (wits .entry)) (now (wit .entry)) (now (positions .entry)) (now (opened .entry)) i .answer)) ⌝ }
     ensures { λ _. ⌜ now (opened .exit) ≡ concatTo (suc l) (λ i. openInto k t l (openedSize k t) (now (wits .entry)) (now (wit .entry)) (now (positions .entry)) (now (opened .entry)) i .openings) ⌝ }
     ensures { λ r. ⌜ now (openings .exit) ≡ written r (inOrder (depth k) t l (λ i. openInto k t l (openedSize k t) (now (wits .entry)) (now (wit .entry)) (now (positions .entry)) (now (opened .entry)) i .openings)) (now (openings .entry)) ⌝ }
 {
-    let count = l as usize;
-    let size = opening_size(k as usize);
-    let width = t as usize * size;
-    let answer = opening::open_all(k, count, t, wits, wit, positions, opened, width);
+    let width = t as usize * encoder::open::opening_size(k as usize);
+    let answer = opening::open_all(k, l as usize, t, wits, wit, positions, opened, width);
     if answer != 0 {
         return answer;
     }
-    order::in_order(opened, t as usize, count + 1, size, openings);
-    0
+    verdicts::lomvuze_interleave(k, l, t, opened, openings)
 }
 
 // Verifies the fold, and decides the new item.
@@ -130,7 +97,7 @@ pub fn chain(
     opened: &mut [u8],
     openings: &mut [u8],
 ) -> u32
-    ensures honest { λ r. ⌜ (Honest m n k l (now (a .entry)) (now (b .entry)) (now (c .entry)) (now (items .entry)) (now (wits .entry)) → PermittedChallenge l challenge → PermittedPositions k t (now (positions .entry)) → foldOutputsFit m n k l (now (quotient .entry)) (now (item .entry)) (now (wit .entry)) ≡ true → openedFits k l t (now (opened .entry)) (now (openings .entry)) ≡ true → r ≡ 0) ⌝ }
+    ensures honest { λ r. ⌜ (Honest fp m n k l (now (a .entry)) (now (b .entry)) (now (c .entry)) (now (items .entry)) (now (wits .entry)) → PermittedChallenge fp l challenge → PermittedPositions k t (now (positions .entry)) → foldOutputsFit m n k l (now (quotient .entry)) (now (item .entry)) (now (wit .entry)) ≡ true → interleaveFits k l t (now (opened .entry)) (now (openings .entry)) ≡ true → r ≡ 0) ⌝ }
     ensures answer { λ r. ⌜ r ≡ chain m n k l t challenge (now (a .entry)) (now (b .entry)) (now (c .entry)) (now (items .entry)) (now (wits .entry)) (now (positions .entry)) (now (quotient .entry)) (now (item .entry)) (now (wit .entry)) (now (opened .entry)) (now (openings .entry)) .answer ⌝ }
     ensures quotient { λ _. ⌜ now (quotient .exit) ≡ chain m n k l t challenge (now (a .entry)) (now (b .entry)) (now (c .entry)) (now (items .entry)) (now (wits .entry)) (now (positions .entry)) (now (quotient .entry)) (now (item .entry)) (now (wit .entry)) (now (opened .entry)) (now (openings .entry)) .quotient ⌝ }
     ensures item { λ _. ⌜ now (item .exit) ≡ chain m n k l t challenge (now (a .entry)) (now (b .entry)) (now (c .entry)) (now (items .entry)) (now (wits .entry)) (now (positions .entry)) (now (quotient .entry)) (now (item .entry)) (now (wit .entry)) (now (opened .entry)) (now (openings .entry)) .item ⌝ }
@@ -138,7 +105,7 @@ pub fn chain(
     ensures opened { λ _. ⌜ now (opened .exit) ≡ chain m n k l t challenge (now (a .entry)) (now (b .entry)) (now (c .entry)) (now (items .entry)) (now (wits .entry)) (now (positions .entry)) (now (quotient .entry)) (now (item .entry)) (now (wit .entry)) (now (opened .entry)) (now (openings .entry)) .opened ⌝ }
     ensures openings { λ _. ⌜ now (openings .exit) ≡ chain m n k l t challenge (now (a .entry)) (now (b .entry)) (now (c .entry)) (now (items .entry)) (now (wits .entry)) (now (positions .entry)) (now (quotient .entry)) (now (item .entry)) (now (wit .entry)) (now (opened .entry)) (now (openings .entry)) .openings ⌝ }
 {
-    if !fits(k, l, t, opened, openings) {
+    if !encoder::interleave::fits(k, l, t, opened, openings) {
         return 2;
     }
     let folded = verdicts::lomvuze_fold(

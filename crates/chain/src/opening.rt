@@ -6,7 +6,7 @@ ghost use Rattle.algebra.specs.Lists.{build};
 ghost use Rattle.tree.specs.Layout.{part};
 ghost use Rattle.theory.specs.Fp.{«open»};
 ghost use Rattle.chain.specs.Answers.{firstOf, firstRefusal};
-ghost use Rattle.chain.specs.Parts.{replaced, Filled};
+ghost use Rattle.encoder.specs.Parts.{replaced, Filled};
 ghost use Rattle.chain.specs.Chained.{openItem, openInto};
 
 // The first of two answers that is not 0, or 0.

@@ -1,2 +1,4 @@
 pub mod Accepted
 pub mod OpeningLaws
+pub mod Filling
+pub mod Ordering

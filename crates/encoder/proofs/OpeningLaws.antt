@@ -30,6 +30,9 @@ pub depth-few : (k : ℕ) → isWitnessCount k ≡ true → depth k ≤ 8
 unfolding depth
 depth-few = for-witness-counts (λ k. depth k ≤ 8) (lit≤ tt) (lit≤ tt) (lit≤ tt) (lit≤ tt) (lit≤ tt) (lit≤ tt)
 
+pub size-small : (k : ℕ) → isWitnessCount k ≡ true → openingSize (depth k) ≤ 260
+size-small k h = omega (arith, depth-few k h)
+
 -- The strings of the members of a list, one after the other, are those of its indices.
 flat-concat : (t : ℕ) (is : List ℕ) (f g : ℕ → List ℕ) → length is ≡ t → ((q : ℕ) → q < t → f (getD is q 0) ≡ g q) → flat (map f is) ≡ concatTo t g
 unfolding flat

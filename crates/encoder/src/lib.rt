@@ -1,3 +1,4 @@
-// Encoding a witness, and opening positions of its codeword.
+// Encoding a witness, opening positions of its codeword, and interleaving the openings of several.
 pub mod encode;
+pub mod interleave;
 pub mod open;

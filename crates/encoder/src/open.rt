@@ -10,6 +10,14 @@ ghost use Rattle.theory.specs.Checks.{answer};
 ghost use Rattle.theory.specs.Sizes.{elementsBelow, positionsBelow};
 ghost use Rattle.theory.specs.Fp.{elements, openFits, openChecks, openingsOf, «open»};
 
+// The bytes of an opening.
+pub fn opening_size(k: usize) -> usize
+    requires { ⌜ isWitnessCount k ≡ true ⌝ }
+    ensures { λ r. ⌜ r ≡ openingSize (depth k) ⌝ }
+{
+    4 + 32 * code::depth_of(k)
+}
+
 // Check 2.
 fn fits(k: u32, t: u32, w: &[u8], positions: &[u8], openings: &[u8]) -> bool
     ensures { λ r. ⌜ r ≡ openFits k t (now (w .entry)) (now (positions .entry)) (now (openings .entry)) ⌝ }
@@ -19,7 +27,7 @@ fn fits(k: u32, t: u32, w: &[u8], positions: &[u8], openings: &[u8]) -> bool
     }
     let n = k as usize;
     let count = t as usize;
-    let size = 4 + 32 * code::depth_of(n);
+    let size = opening_size(n);
     checks::sizes::position_count_fits(k, t)
         & (w.len() == 4 * n)
         & (positions.len() == 4 * count)

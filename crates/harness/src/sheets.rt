@@ -3,7 +3,7 @@ ghost use mathlib.Core.Path.{_≡_};
 ghost use mathlib.Core.Bool.{cond};
 ghost use lib.ListN.{length};
 ghost use Rattle.theory.specs.Sizes.{hasLength};
-ghost use Rattle.sheet.specs.Reading.{filled};
+ghost use Rattle.scan.specs.Sheet.{filled};
 ghost use Rattle.listing.specs.Listing.{listing};
 
 // Writes the listing from the front of a buffer of 2,122 bytes, and returns its length.

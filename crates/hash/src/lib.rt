@@ -39,7 +39,8 @@ pub fn digest(msg: &[u8]) -> [u8; 32]
 pub fn leaf(value: [u8; 4]) -> [u8; 32]
     ensures { λ r. ⌜ r ≡ digest (0x00 ∷ value) ⌝ }
 {
-    let mut msg = [0x00u8; 5];
+    let mut msg = [0u8; 5];
+    msg[0] = 0x00;
     message::copy(&mut msg, 1, &value);
     digest(&msg)
 }
@@ -48,7 +49,8 @@ pub fn leaf(value: [u8; 4]) -> [u8; 32]
 pub fn node(left: [u8; 32], right: [u8; 32]) -> [u8; 32]
     ensures { λ r. ⌜ r ≡ digest (0x01 ∷ (left ++ right)) ⌝ }
 {
-    let mut msg = [0x01u8; 65];
+    let mut msg = [0u8; 65];
+    msg[0] = 0x01;
     message::copy(&mut msg, 1, &left);
     message::copy(&mut msg, 33, &right);
     digest(&msg)

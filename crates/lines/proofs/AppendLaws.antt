@@ -1,16 +1,20 @@
 -- Byte strings that are put into a buffer: in their place, and as numbers and roots behind the first `count` numbers.
 use mathlib.Core.Path.{_≡_, refl, sym, ap, ap₂, _∙_}
-use mathlib.Core.Bool.{true}
+use mathlib.Core.Bool.{Bool, true, false}
 use mathlib.Core.List.{List, [], _∷_, _++_, map, append-assoc}
 use Prim.Native.Nat.{ℕ, zero, suc, _+_, _*_, _≤_, _<_}
 use native.Mathlib.Nat.{add-zero}
 use native.Mathlib.Omega.{arith}
+use borrow.Author.Tests.{leb-true, leb-false, le-leb, lt-leb}
+use lib.Dec.{leb}
 use lib.ListN.{length, take, drop, length-append, length-take, length-drop, length-map, take-append-drop}
 use lib.Seq.{length-take-le, take-at, drop-at, drop-drop}
+use Rattle.numbers.specs.Numbers.{bytes4, bytes}
 use Rattle.numbers.proofs.Bytes.{length-bytes}
-use Rattle.lines.specs.Text.{decimal, hexBytes}
+use Rattle.numbers.proofs.Tests.{and-left, and-right}
+use Rattle.lines.specs.Text.{allPass, decimal, isNumber, hexBytes}
 use Rattle.lines.specs.Lines.{front, last}
-use Rattle.lines.specs.Cursor.{isItem, numberBytes, itemBytes, Appended}
+use Rattle.lines.specs.Cursor.{isItem, numberBytes, itemBytes, placed, appended, appendedNumbers, appendedItem, Appended}
 use Rattle.lines.proofs.LineLengths.{item-parts, root-length}
 
 -- ---- how long numbers and roots are
@@ -32,10 +36,6 @@ length-itemBytes fs e =
     omega (arith, length-append (numberBytes (front fs)) (hexBytes (last fs)), length-numberBytes (front fs), length-hexBytes 32 (last fs) root)
 
 -- ---- a byte string in its place
-
--- The buffer with xs from index `at` on.
-abbrev placed : ℕ → List ℕ → List ℕ → List ℕ
-placed at xs s = take at s ++ (xs ++ drop (at + length xs) s)
 
 pub placed-none : (at : ℕ) (s : List ℕ) → placed at [] s ≡ s
 placed-none at s = ap (λ (n : ℕ). take at s ++ drop n s) (add-zero at) ∙ take-append-drop at s
@@ -66,19 +66,28 @@ module _ (at : ℕ) (xs s : List ℕ) (fits : at + length xs ≤ length s) where
       ap₂ (λ (front rest : List ℕ). front ++ (ys ++ rest)) placed-take behind ∙ simp append-assoc
 
 -- ---- what is appended
+module _ (count : ℕ) (xs held : List ℕ) where
+  -- Where xs fits, it stands in its place.
+  pub appended-put : {now : List ℕ} → 4 * count + length xs ≤ length held
+      → now ≡ take (4 * count) held ++ xs ++ drop (4 * count + length xs) held → now ≡ appended count xs held
+  unfolding appended
+  appended-put h e = e ∙ append-assoc (take (4 * count) held) xs (drop (4 * count + length xs) held) ∙ sym (rw (le-leb (4 * count + length xs) (length held) h))
+
+  -- Where it does not, the buffer stays as it is.
+  pub appended-full : length held < 4 * count + length xs → held ≡ appended count xs held
+  unfolding appended
+  appended-full h = sym (rw (lt-leb (4 * count + length xs) (length held) h))
+
+  appended-holds : Appended count xs held (appended count xs held)
+  unfolding appended
+  appended-holds = go (leb (4 * count + length xs) (length held)) refl
+    where
+      go : (t : Bool) → leb (4 * count + length xs) (length held) ≡ t → Appended count xs held (appended count xs held)
+      go true e = rw e (placed-length (4 * count) xs held (leb-true _ _ e), λ l. refl)
+      go false e = rw e (refl, λ l. absurd (omega (arith, leb-false (4 * count + length xs) (length held) e)))
+
 pub appended-none : (count : ℕ) (s : List ℕ) → Appended count [] s s
 appended-none count s = (refl, λ h. sym (placed-none (4 * count) s))
-
--- Where xs does not fit, the buffer stays as it is.
-pub appended-full : (count : ℕ) (xs s : List ℕ) → length s < 4 * count + length xs → Appended count xs s s
-appended-full count xs s h = (refl, λ l. absurd (omega arith))
-
--- Where it fits, it stands in its place.
-pub appended-put : (count : ℕ) (xs held now : List ℕ) → 4 * count + length xs ≤ length held
-    → now ≡ take (4 * count) held ++ xs ++ drop (4 * count + length xs) held → Appended count xs held now
-appended-put count xs held now h e =
-    let is : now ≡ placed (4 * count) xs held = e ∙ append-assoc (take (4 * count) held) xs (drop (4 * count + length xs) held) in
-    (ap length is ∙ placed-length (4 * count) xs held h, λ l. is)
 
 -- xs, then ys behind it.
 pub appended-more : (count n : ℕ) (xs ys held now later : List ℕ) → length xs ≡ 4 * n
@@ -92,12 +101,27 @@ appended-more count n xs ys held now later size a b = (b .0 ∙ a .0, both)
         let written : later ≡ placed (4 * count + length xs) ys now = rw place at (b .1 (omega (arith, length-append xs ys, a .0))) in
         written ∙ ap (placed (4 * count + length xs) ys) (a .1 fits) ∙ placed-more (4 * count) xs held fits ys
 
--- A buffer that starts with ys, if they fit, then starts with ys and xs, if those fit.
-pub appended-front : (count : ℕ) (ys xs held now : List ℕ) → length ys ≡ 4 * count
-    → (length ys ≤ length held → take (length ys) held ≡ ys)
-    → Appended count xs held now → length (ys ++ xs) ≤ length now → take (length (ys ++ xs)) now ≡ ys ++ xs
-appended-front count ys xs held now size start a h =
-    let fits : 4 * count + length xs ≤ length held = omega (arith, length-append ys xs, a .0) in
-    let e : length (ys ++ xs) ≡ 4 * count + length xs = omega (arith, length-append ys xs) in
-    let begins : take (4 * count) held ≡ ys = rw size at (start (omega arith)) in
-    rw (e, a .1 fits) (placed-take (4 * count) xs held fits ∙ rw begins)
+-- Numbers that are appended one by one are all appended, and so is an item.
+numbers-hold : (count : ℕ) (fs : List (List ℕ)) (held : List ℕ) → allPass isNumber fs ≡ true → Appended count (numberBytes fs) held (appendedNumbers count fs held)
+unfolding appendedNumbers allPass bytes
+numbers-hold count [] held e = appended-none count held
+numbers-hold count (f ∷ fs) held e =
+    let x = bytes4 (decimal f) in
+    rw (and-left (isNumber f) _ e)
+    (appended-more count 1 x (numberBytes fs) held (appended count x held) _ refl (appended-holds count x held)
+    (numbers-hold (count + 1) fs (appended count x held) (and-right (isNumber f) _ e)))
+
+pub numbers-appended : (count : ℕ) (fs : List (List ℕ)) (held : List ℕ) {now : List ℕ} → now ≡ appendedNumbers count fs held
+    → allPass isNumber fs ≡ true → Appended count (numberBytes fs) held now
+numbers-appended count fs held is e = rw is (numbers-hold count fs held e)
+
+pub item-appended : (count : ℕ) (fs : List (List ℕ)) (held : List ℕ) {now : List ℕ} → now ≡ appendedItem count fs held
+    → isItem fs ≡ true → Appended count (itemBytes fs) held now
+unfolding appendedItem
+item-appended count fs held is e =
+    let n = length (front fs) in
+    let before = appendedNumbers count (front fs) held in
+    rw (is, e)
+    (appended-more count n (numberBytes (front fs)) (hexBytes (last fs)) held before _ (length-numberBytes (front fs))
+    (numbers-hold count (front fs) held (item-parts fs e .0))
+    (appended-holds (count + n) (hexBytes (last fs)) before))

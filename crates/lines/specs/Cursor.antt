@@ -1,11 +1,11 @@
--- Where the fields and lines of a text lie: the field and the line that start at an index, and what is read there.
+-- Where the fields and lines of a text lie: the field and the line that start at an index, what is read there, and what a buffer holds then.
 use mathlib.Core.Bool.{Bool, true, false, cond, _&&_, _||_}
 use mathlib.Core.Path.{_≡_}
 use mathlib.Core.List.{List, [], _∷_, _++_, map}
 use Prim.Native.Nat.{ℕ, _+_, _*_, _≤_, min}
 use lib.ListN.{length, getD, take, drop, replicate}
 use lib.Dec.{eqb, leb, ltb}
-use Rattle.numbers.specs.Numbers.{bytes}
+use Rattle.numbers.specs.Numbers.{bytes4, bytes}
 use Rattle.lines.specs.declared.number.Number.{Number}
 use Rattle.lines.specs.declared.number.Number.the-variants as number
 use Rattle.lines.specs.declared.root.Root.{Root}
@@ -63,13 +63,7 @@ numbersAt s at count = cond (allPass isNumber (fieldsAt s at)) (row.Read (count 
 unfoldable pub exactlyAt : List ℕ → ℕ → ℕ → ℕ → Row
 exactlyAt s at count size = cond (allPass isNumber (fieldsAt s at) && eqb (length (fieldsAt s at)) size) (row.Read (count + size) (nextLine s at)) row.Bad
 
--- The same as numbers and a root, which takes the place of eight, and as a number and those.
-abbrev pub isTail : List (List ℕ) → Bool
-isTail fs = allPass isNumber (front fs) && isRoot (last fs)
-
-unfoldable pub tailAt : List ℕ → ℕ → ℕ → Row
-tailAt s at count = cond (isTail (fieldsAt s at)) (row.Read (count + length (front (fieldsAt s at)) + 8) (nextLine s at)) row.Bad
-
+-- The same as one number or more and a root, which takes the place of eight.
 abbrev pub isItem : List (List ℕ) → Bool
 isItem fs = allPass isNumber (front fs) && leb 1 (length (front fs)) && isRoot (last fs)
 
@@ -83,6 +77,26 @@ numberBytes fs = bytes (map decimal fs)
 abbrev pub itemBytes : List (List ℕ) → List ℕ
 itemBytes fs = numberBytes (front fs) ++ hexBytes (last fs)
 
--- xs was put behind the first `count` numbers of a buffer, if there is room.
+-- A buffer with xs from index `at` on.
+abbrev pub placed : ℕ → List ℕ → List ℕ → List ℕ
+placed at xs held = take at held ++ (xs ++ drop (at + length xs) held)
+
+-- A buffer with xs behind its first `count` numbers if there is room, else as it was.
+unfoldable pub appended : ℕ → List ℕ → List ℕ → List ℕ
+appended count xs held = cond (leb (4 * count + length xs) (length held)) (placed (4 * count) xs held) held
+
+-- A buffer behind fields that are read as numbers: each is appended, up to the first that is none.
+unfoldable pub appendedNumbers : ℕ → List (List ℕ) → List ℕ → List ℕ
+appendedNumbers count [] held = held
+appendedNumbers count (f ∷ fs) held = cond (isNumber f) (appendedNumbers (count + 1) fs (appended count (bytes4 (decimal f)) held)) held
+
+-- A buffer behind fields that are read as an item: those before the last as numbers, and the root if all of them are an item.
+unfoldable pub appendedItem : ℕ → List (List ℕ) → List ℕ → List ℕ
+appendedItem count fs held =
+    cond (isItem fs)
+    (appended (count + length (front fs)) (hexBytes (last fs)) (appendedNumbers count (front fs) held))
+    (appendedNumbers count (front fs) held)
+
+-- For a whole line: the buffer keeps its length and, if there is room for all of xs, has xs behind its first `count` numbers.
 abbrev pub Appended : ℕ → List ℕ → List ℕ → List ℕ → Type 0
-Appended count xs held now = (length now ≡ length held) × (4 * count + length xs ≤ length held → now ≡ take (4 * count) held ++ (xs ++ drop (4 * count + length xs) held))
+Appended count xs held now = (length now ≡ length held) × (4 * count + length xs ≤ length held → now ≡ placed (4 * count) xs held)

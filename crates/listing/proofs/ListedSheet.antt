@@ -16,9 +16,9 @@ use Rattle.theory.proofs.CheckLaws.{written-accepted}
 use Rattle.lines.specs.declared.keyword.Keyword.the-variants.{EntryA, EntryB, EntryC, Item, Wit}
 use Rattle.lines.specs.Lines.{Line}
 use Rattle.validation.specs.declared.reading.Reading.{Reading}
-use Rattle.scan.specs.Sheet.{sheetLines, m, n, k, pairs, bytesOf}
+use Rattle.scan.specs.Sheet.{sheetLines, m, n, k, pairs, bytesOf, filled}
 use Rattle.validation.specs.SheetChecks.{buffersFit, sheetChecks}
-use Rattle.sheet.specs.Reading.{filled, readSheet}
+use Rattle.sheet.specs.Reading.{readSheet}
 use Rattle.sheet.proofs.SheetCall.{Called, the-answer, zero-answer, all-passed, read-lines, counts-bounded, a-long, b-long, c-long, items-long, wits-long}
 use Rattle.listing.specs.Listing.{refusal, claims, claimsRead, listingOf, listing}
 use Rattle.listing.proofs.PlacingLaws.{Filled}

@@ -7,7 +7,7 @@ use native.Mathlib.Omega.{arith}
 use lib.ListN.{length, take, drop, set, length-append, length-take, drop-of-length-le}
 use lib.Seq.{drop-at, drop-drop, take-length, length-take-le, take-set-le, set-split}
 use Rattle.lines.proofs.AppendLaws.{placed-length, placed-more}
-use Rattle.sheet.specs.Reading.{filled}
+use Rattle.scan.specs.Sheet.{filled}
 use Rattle.listing.specs.Placing.{placed}
 
 -- One byte more, from the last one on.

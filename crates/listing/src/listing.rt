@@ -5,7 +5,7 @@ ghost use Prim.Native.Nat.{_+_, _*_, _≤_, _<_};
 ghost use lib.ListN.{length, take};
 ghost use Rattle.theory.specs.Sizes.{hasLength, circuitInOrder};
 ghost use Rattle.theory.specs.Fp.{itemSize, itemsBelow};
-ghost use Rattle.sheet.specs.Reading.{filled};
+ghost use Rattle.scan.specs.Sheet.{filled};
 ghost use Rattle.listing.specs.Placing.{placed};
 ghost use Rattle.listing.specs.Listing.{verdictWord, claimLine, claimLines, claimsHead, refusal, claimsRead, listing};
 use crate::text;

@@ -17,9 +17,9 @@ use Rattle.lines.specs.declared.keyword.Keyword.{Keyword}
 use Rattle.lines.specs.declared.keyword.Keyword.the-variants.{EntryA, EntryB, EntryC, Item, Wit, End}
 use Rattle.lines.specs.Text.{allPass}
 use Rattle.lines.specs.Lines.{Line}
-use Rattle.scan.specs.Sheet.{sheetLines, ordered, having, countOf, numberOf, m, n, k, pairs, bytesOf, allHave}
+use Rattle.scan.specs.Sheet.{sheetLines, ordered, having, countOf, numberOf, m, n, k, pairs, bytesOf, allHave, filled}
 use Rattle.validation.specs.SheetChecks.{countsFit, buffersFit, sheetChecks, result}
-use Rattle.sheet.specs.Reading.{filled, ReadSheet, readSheet}
+use Rattle.sheet.specs.Reading.{ReadSheet, readSheet}
 use Rattle.roundtrip.specs.Writing.{Pair, Document, Writable, writeSheet, entryBytes, itemsBytes, witnessBytes, documentChecks, readBack}
 use Rattle.roundtrip.proofs.WrittenText.{textOf, ended-line, last-line}
 use Rattle.scan.proofs.SheetLaws.{allPass-map}

@@ -14,7 +14,8 @@ use Rattle.lines.specs.Text.{allPass}
 use Rattle.lines.specs.Lines.{sizeWord, aWord, bWord, cWord, itemWord, witWord, endWord}
 use Rattle.lines.specs.LineWriting.{writeNumber, writeHex, writeLine}
 use Rattle.theory.specs.Fp.{listChecks}
-use Rattle.sheet.specs.Reading.{filled, ReadSheet}
+use Rattle.scan.specs.Sheet.{filled}
+use Rattle.sheet.specs.Reading.{ReadSheet}
 
 -- A pair: the item's numbers e, r and x, its root, and the witness.
 pub record Pair : Type 0 where

@@ -1,6 +1,7 @@
+mod EntryLines
 mod KeywordLines
 mod LineReading
 mod LineStates
 mod ScanLaws
-pub mod Scanned
+mod Scanned
 pub mod SheetLaws

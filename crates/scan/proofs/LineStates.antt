@@ -19,8 +19,8 @@ use Rattle.scan.specs.declared.state.Entries.{Entries}
 use Rattle.scan.specs.declared.state.State.{State}
 use Rattle.lines.specs.Text.{allPass, decimal, isDigit, needlessZero, isNumber, hexBytes}
 use Rattle.lines.specs.Lines.{Line, countFits, broken, numbersLine, front, last, itemLine, lineWith}
-use Rattle.lines.specs.Cursor.{fieldsAt, nextLine, numbersAt, exactlyAt, isItem, itemRowAt, numberBytes, itemBytes, Appended}
-use Rattle.lines.proofs.AppendLaws.{length-numberBytes}
+use Rattle.lines.specs.Cursor.{fieldsAt, nextLine, numbersAt, exactlyAt, isItem, itemRowAt, numberBytes, appendedNumbers, appendedItem, Appended}
+use Rattle.lines.proofs.AppendLaws.{length-numberBytes, numbers-appended, item-appended}
 use Rattle.lines.proofs.FieldEnds.{first-field}
 use Rattle.scan.specs.Sheet.{number, having, lineBytes, bytesOf}
 use Rattle.lines.proofs.ReadLaws.{cond-read, cond-bad, row-read, row-bad}
@@ -118,7 +118,7 @@ module _ (st : State) where
   is-c = record { some = omega arith; three = λ n. refl; line = λ fs. refl; behind = λ xs next. refl }
 
 module _ (w : Keyword) (st : State) (entries : Entries) (is : EntryKeyword w st entries) (s : List ℕ) (at count : ℕ) (held now : List ℕ)
-    (a : allPass isNumber (fieldsAt s at) ≡ true → Appended (3 * count) (numberBytes (fieldsAt s at)) held now) (q : State) where
+    (a : now ≡ appendedNumbers (3 * count) (fieldsAt s at) held) (q : State) where
   pub entry-read : (r : Row) → r ≡ exactlyAt s at (3 * count) 3 → q ≡ afterEntry w entries st r → Promised w st (lineWith w (fieldsAt s at)) (nextLine s at) (3 * count) held now q
   entry-read (row.Read total next) e z =
       let xs = map decimal (fieldsAt s at) in
@@ -126,7 +126,7 @@ module _ (w : Keyword) (st : State) (entries : Entries) (is : EntryKeyword w st 
       accepted w st _ _ (3 * count) held now q xs []
       (is .line (fieldsAt s at) ∙ exactly-line s at (3 * count) 3 e w (is .three) refl)
       (z ∙ (sym (is .behind xs next) ∙ ap (advanceBy w st xs) (f .2)))
-      (rw append-nil (a (f .0)))
+      (rw append-nil (numbers-appended (3 * count) (fieldsAt s at) held a (f .0)))
   entry-read row.Bad e z = refused w st _ _ (3 * count) held now q (is .some) z (is .line (fieldsAt s at) ∙ exactly-bad s at (3 * count) 3 e w (is .three) refl)
 
 -- ---- `size` and `end`: the numbers come back out of a buffer that they fill
@@ -137,12 +137,12 @@ module _ (st : State) (s : List ℕ) (at size : ℕ) {r : Row} (e : r ≡ exactl
 
   -- The state by the numbers xs that were found in the buffer.
   pub exactly-found : {total next : ℕ} → r ≡ row.Read total next → (held found : List ℕ) → length held ≡ 4 * size
-      → (allPass isNumber (fieldsAt s at) ≡ true → Appended 0 (numberBytes (fieldsAt s at)) held found)
+      → found ≡ appendedNumbers 0 (fieldsAt s at) held
       → advanceBy w st (numbers found) next ≡ advance st (numbersLine w (fieldsAt s at)) (nextLine s at)
   exactly-found {next = next} t held found h a =
       let f = exactly-read s at 0 size e t in
       let count : length (fieldsAt s at) ≡ size = eqb-true (length (fieldsAt s at)) size (f .1) in
-      let back : numbers found ≡ map decimal (fieldsAt s at) = numbers-back (fieldsAt s at) held found (f .0) (omega arith) (a (f .0)) in
+      let back : numbers found ≡ map decimal (fieldsAt s at) = numbers-back (fieldsAt s at) held found (f .0) (omega arith) (numbers-appended 0 (fieldsAt s at) held a (f .0)) in
       rw (back, f .2) (sym (state-behind st _ (nextLine s at) (exactly-line s at 0 size e w exactly t)))
 
 -- ---- `wit` and `item`: the test of the total against the expected one is that of the line's own count
@@ -156,7 +156,7 @@ same-count a b x y f g = go (eqb x y) refl
 
 module _ (st : State) (s : List ℕ) (at : ℕ) {r : Row} {total next : ℕ} (t : r ≡ row.Read total next) (held now : List ℕ) where
   pub witness-read : r ≡ numbersAt s at (st .pairs .wits)
-      → (allPass isNumber (fieldsAt s at) ≡ true → Appended (st .pairs .wits) (numberBytes (fieldsAt s at)) held now)
+      → now ≡ appendedNumbers (st .pairs .wits) (fieldsAt s at) held
       → Promised Wit st (numbersLine Wit (fieldsAt s at)) (nextLine s at) (st .pairs .wits) held now
       (withPairs Wit (record { items = st .pairs .items; wits = total; count = st .pairs .count }) (st .fit && eqb total (st .pairs .wits + st .sizes .k)) st next)
   witness-read e a =
@@ -165,7 +165,7 @@ module _ (st : State) (s : List ℕ) (at : ℕ) {r : Row} {total next : ℕ} (t 
       let f = row-read s at (st .pairs .wits) e t in
       let h : total ≡ st .pairs .wits + n = omega (arith, f .1, length-map (fieldsAt s at) decimal) in
       let same = same-count (st .pairs .wits + n) (st .pairs .wits + st .sizes .k) n (st .sizes .k) (λ q. omega arith) (λ q. omega arith) in
-      accepted Wit st _ _ (st .pairs .wits) held now _ xs [] (rw (f .0, le-leb 1 (length (fieldsAt s at)) (some-fields s at))) (rw (f .2, h, same)) (rw append-nil (a (f .0)))
+      accepted Wit st _ _ (st .pairs .wits) held now _ xs [] (rw (f .0, le-leb 1 (length (fieldsAt s at)) (some-fields s at))) (rw (f .2, h, same)) (rw append-nil (numbers-appended (st .pairs .wits) (fieldsAt s at) held a (f .0)))
 
   row-of-item : r ≡ itemRowAt s at (st .pairs .items) → (isItem (fieldsAt s at) ≡ true) × (total ≡ st .pairs .items + length (front (fieldsAt s at)) + 8) × (next ≡ nextLine s at)
   unfolding itemRowAt
@@ -173,7 +173,7 @@ module _ (st : State) (s : List ℕ) (at : ℕ) {r : Row} {total next : ℕ} (t 
 
   -- A root takes the place of eight numbers.
   pub item-read : r ≡ itemRowAt s at (st .pairs .items)
-      → (isItem (fieldsAt s at) ≡ true → Appended (st .pairs .items) (itemBytes (fieldsAt s at)) held now)
+      → now ≡ appendedItem (st .pairs .items) (fieldsAt s at) held
       → Promised Item st (itemLine (fieldsAt s at)) (nextLine s at) (st .pairs .items) held now
       (withPairs Item (record { items = total; wits = st .pairs .wits; count = st .pairs .count + 1 }) (st .fit && eqb total (st .pairs .items + (1 + st .sizes .m + st .sizes .n) + 8)) st next)
   item-read e a =
@@ -183,7 +183,7 @@ module _ (st : State) (s : List ℕ) (at : ℕ) {r : Row} {total next : ℕ} (t 
       let f = row-of-item e in
       let h : total ≡ st .pairs .items + n + 8 = omega (arith, f .1, length-map (front (fieldsAt s at)) decimal) in
       let same = same-count (st .pairs .items + n + 8) (st .pairs .items + k + 8) n k (λ q. omega arith) (λ q. omega arith) in
-      accepted Item st _ _ (st .pairs .items) held now _ xs (hexBytes (last (fieldsAt s at))) (rw (f .0)) (rw (f .2, h, same)) (a (f .0))
+      accepted Item st _ _ (st .pairs .items) held now _ xs (hexBytes (last (fieldsAt s at))) (rw (f .0)) (rw (f .2, h, same)) (item-appended (st .pairs .items) (fieldsAt s at) held a (f .0))
 
 pub witness-bad : (s : List ℕ) (at count : ℕ) {r : Row} → r ≡ numbersAt s at count → r ≡ row.Bad → numbersLine Wit (fieldsAt s at) ≡ broken
 witness-bad s at count e b = rw (row-bad s at count e b)

@@ -4,6 +4,7 @@ use mathlib.Core.Path.{_≡_, refl, sym, ap, _∙_}
 use mathlib.Core.Bool.{Bool, true, false, _&&_, true≢false}
 use mathlib.Core.List.{List, [], _∷_, _++_, map, append-nil}
 use Prim.Native.Nat.{ℕ, _-_, _*_, _≤_, _<_}
+use native.Mathlib.Nat.{zero-add}
 use native.Mathlib.Omega.{arith}
 use lib.ListN.{length, drop, drop-of-length-le}
 use lib.Seq.{append-snoc}
@@ -15,9 +16,9 @@ use Rattle.lines.specs.Text.{lines, pieces}
 use Rattle.lines.specs.Lines.{Line, lineOf}
 use Rattle.lines.specs.Cursor.{lineAt, nextLine, Appended}
 use Rattle.scan.specs.Sheet.{sameKeyword, follows, orderedAfter, ordered, sheetLines, having, lineBytes, bytesOf}
-use Rattle.scan.specs.Scan.{lastKeyword, numberCount, stateAfter, advance, step, lineHere, mayStand, Bounded, StartsWith}
+use Rattle.scan.specs.Scan.{lastKeyword, numberCount, stateAfter, advance, step, lineHere, mayStand, Bounded, Filled, LinesRead}
 use Rattle.lines.proofs.LineLengths.{first-of-lines, next-after}
-use Rattle.lines.proofs.AppendLaws.{appended-front}
+use Rattle.lines.proofs.AppendLaws.{appended-none, appended-more}
 use Rattle.scan.proofs.SheetLaws.{same-keyword, Sound, sound, bytesOf-append, a-length, b-length, c-length, items-length, wits-length}
 use Rattle.scan.proofs.ScanLaws.{follows-none, step-on, step-off, step-last, OrderedPrefix, none, more, prefix-sound, prefix-order, advance-more}
 
@@ -44,33 +45,24 @@ module _ (st r : State) (l : Line) (next : ℕ) (e : r ≡ step st l next) where
 
 -- ---- the invariant
 
--- What the scan promises of a sheet in order: the state behind the last line, and what each buffer holds.
-abbrev pub LinesRead : List ℕ → State → List ℕ → List ℕ → List ℕ → List ℕ → List ℕ → Type 0
-LinesRead s st a b c items wits =
-    (ordered (sheetLines s) ≡ true → st ≡ stateAfter (sheetLines s) (length s))
-    × ((ordered (sheetLines s) ≡ true → StartsWith (bytesOf EntryA (sheetLines s)) a)
-    × ((ordered (sheetLines s) ≡ true → StartsWith (bytesOf EntryB (sheetLines s)) b)
-    × ((ordered (sheetLines s) ≡ true → StartsWith (bytesOf EntryC (sheetLines s)) c)
-    × ((ordered (sheetLines s) ≡ true → StartsWith (bytesOf Item (sheetLines s)) items)
-    × (ordered (sheetLines s) ≡ true → StartsWith (bytesOf Wit (sheetLines s)) wits)))))
-
--- The last keyword tells whether the sheet is in order.
-abbrev Result : List ℕ → List ℕ → List ℕ → List ℕ → List ℕ → List ℕ → State → Type 0
-Result s a b c items wits r = (sameKeyword (r .last) End ≡ ordered (sheetLines s)) × LinesRead s r a b c items wits
-
-pub record Scanned (s a b c items wits : List ℕ) (st : State) : Type 0 where
+pub record Scanned (s a₀ b₀ c₀ items₀ wits₀ a b c items wits : List ℕ) (st : State) : Type 0 where
   pub ls : List Line
   pub in-order : OrderedPrefix ls
   pub split : sheetLines s ≡ ls ++ map lineOf (lines (drop (st .at) s))
   pub state : st ≡ stateAfter ls (st .at)
   pub bounded : Bounded (length s) st
-  pub in-a : StartsWith (bytesOf EntryA ls) a
-  pub in-b : StartsWith (bytesOf EntryB ls) b
-  pub in-c : StartsWith (bytesOf EntryC ls) c
-  pub in-items : StartsWith (bytesOf Item ls) items
-  pub in-wits : StartsWith (bytesOf Wit ls) wits
+  pub in-a : Appended 0 (bytesOf EntryA ls) a₀ a
+  pub in-b : Appended 0 (bytesOf EntryB ls) b₀ b
+  pub in-c : Appended 0 (bytesOf EntryC ls) c₀ c
+  pub in-items : Appended 0 (bytesOf Item ls) items₀ items
+  pub in-wits : Appended 0 (bytesOf Wit ls) wits₀ wits
 
-pub start-scanned : (s a b c items wits : List ℕ) → Scanned s a b c items wits (stateAfter [] 0)
+-- The buffers keep their lengths.
+pub keeps-lengths : {s a₀ b₀ c₀ items₀ wits₀ a b c items wits : List ℕ} {st : State} → Scanned s a₀ b₀ c₀ items₀ wits₀ a b c items wits st
+    → (length a ≡ length a₀) × (length b ≡ length b₀) × (length c ≡ length c₀) × (length items ≡ length items₀) × (length wits ≡ length wits₀) × Scanned s a₀ b₀ c₀ items₀ wits₀ a b c items wits st
+keeps-lengths h = (h .in-a .0, h .in-b .0, h .in-c .0, h .in-items .0, h .in-wits .0, h)
+
+pub start-scanned : (s a b c items wits : List ℕ) → Scanned s a b c items wits a b c items wits (stateAfter [] 0)
 unfolding sheetLines having lineBytes numberCount
 start-scanned s a b c items wits =
     record {
@@ -79,19 +71,19 @@ start-scanned s a b c items wits =
       split = refl;
       state = refl;
       bounded = omega arith;
-      in-a = λ _. refl;
-      in-b = λ _. refl;
-      in-c = λ _. refl;
-      in-items = λ _. refl;
-      in-wits = λ _. refl;
+      in-a = appended-none 0 a;
+      in-b = appended-none 0 b;
+      in-c = appended-none 0 c;
+      in-items = appended-none 0 items;
+      in-wits = appended-none 0 wits;
     }
 
 -- A buffer that holds what the lines so far say holds what they and the next line say.
-starts-with-more : (w : Keyword) (ls : List Line) (l : Line) (count : ℕ) (held now : List ℕ) → length (bytesOf w ls) ≡ 4 * count
-    → StartsWith (bytesOf w ls) held → Appended count (bytesOf w (l ∷ [])) held now → StartsWith (bytesOf w (ls ++ (l ∷ []))) now
-starts-with-more w ls l count held now size h a = rw (bytesOf-append w ls (l ∷ [])) (appended-front count (bytesOf w ls) (bytesOf w (l ∷ [])) held now size h a)
+line-more : (w : Keyword) (ls : List Line) (l : Line) (count : ℕ) (held now later : List ℕ) → length (bytesOf w ls) ≡ 4 * count
+    → Appended 0 (bytesOf w ls) held now → Appended count (bytesOf w (l ∷ [])) now later → Appended 0 (bytesOf w (ls ++ (l ∷ []))) held later
+line-more w ls l count held now later size h a = rw (bytesOf-append w ls (l ∷ [])) (appended-more 0 count (bytesOf w ls) (bytesOf w (l ∷ [])) held now later size h (rw (zero-add count) a))
 
-module _ (s a b c items wits : List ℕ) (st r : State) (so-far : Scanned s a b c items wits st) (inside : st .at < length s)
+module _ (s a₀ b₀ c₀ items₀ wits₀ a b c items wits : List ℕ) (st r : State) (so-far : Scanned s a₀ b₀ c₀ items₀ wits₀ a b c items wits st) (inside : st .at < length s)
     (e : r ≡ step st (lineHere s st) (nextLine s (st .at))) where
   abbrev here : Line
   here = lineHere s st
@@ -121,7 +113,7 @@ module _ (s a b c items wits : List ℕ) (st r : State) (so-far : Scanned s a b 
       let refused : follows (lastKeyword ls) (here .keyword) ≡ false = ap (λ v. follows v (here .keyword)) (sym last-here) ∙ stops st r here next e h in
       ap ordered split-here ∙ prefix-order ls (so-far .in-order) (here ∷ behind) ∙ ap (λ t. t && orderedAfter (here .keyword) behind) refused
 
-  pub stopped-result : sameKeyword (r .last) None ≡ true → (a′ b′ c′ items′ wits′ : List ℕ) → Result s a′ b′ c′ items′ wits′ r
+  pub stopped-result : sameKeyword (r .last) None ≡ true → (a′ b′ c′ items′ wits′ : List ℕ) → LinesRead s r a₀ b₀ c₀ items₀ wits₀ a′ b′ c′ items′ wits′
   stopped-result h a′ b′ c′ items′ wits′ =
       (ap (λ v. sameKeyword v End) (same-keyword (r .last) None h) ∙ sym (not-ordered h), (never, (never, (never, (never, (never, never))))))
     where
@@ -154,7 +146,7 @@ module _ (s a b c items wits : List ℕ) (st r : State) (so-far : Scanned s a b 
         → (mayStand s st → Appended (3 * st .entries .c) (bytesOf EntryC (here ∷ [])) c c′)
         → (mayStand s st → Appended (st .pairs .items) (bytesOf Item (here ∷ [])) items items′)
         → (mayStand s st → Appended (st .pairs .wits) (bytesOf Wit (here ∷ [])) wits wits′)
-        → Scanned s a′ b′ c′ items′ wits′ r
+        → Scanned s a₀ b₀ c₀ items₀ wits₀ a′ b′ c′ items′ wits′ r
     next-scanned a′ b′ c′ items′ wits′ bound in-a in-b in-c in-items in-wits =
         record {
           ls = ls ++ (here ∷ []);
@@ -162,15 +154,19 @@ module _ (s a b c items wits : List ℕ) (st r : State) (so-far : Scanned s a b 
           split = split-here ∙ sym (append-snoc ls here behind) ∙ rw at-next;
           state = state-next ∙ rw at-next;
           bounded = bound may;
-          in-a = starts-with-more EntryA ls here (3 * st .entries .a) a a′ (a-length ls all ∙ ap (λ x. 4 * (3 * x .entries .a)) (sym (so-far .state))) (so-far .in-a) (in-a may);
-          in-b = starts-with-more EntryB ls here (3 * st .entries .b) b b′ (b-length ls all ∙ ap (λ x. 4 * (3 * x .entries .b)) (sym (so-far .state))) (so-far .in-b) (in-b may);
-          in-c = starts-with-more EntryC ls here (3 * st .entries .c) c c′ (c-length ls all ∙ ap (λ x. 4 * (3 * x .entries .c)) (sym (so-far .state))) (so-far .in-c) (in-c may);
-          in-items = starts-with-more Item ls here (st .pairs .items) items items′ (items-length ls all ∙ ap (λ x. 4 * x .pairs .items) (sym (so-far .state))) (so-far .in-items) (in-items may);
-          in-wits = starts-with-more Wit ls here (st .pairs .wits) wits wits′ (wits-length ls all ∙ ap (λ x. 4 * x .pairs .wits) (sym (so-far .state))) (so-far .in-wits) (in-wits may);
+          in-a = line-more EntryA ls here (3 * st .entries .a) a₀ a a′ (a-length ls all ∙ ap (λ x. 4 * (3 * x .entries .a)) (sym (so-far .state))) (so-far .in-a) (in-a may);
+          in-b = line-more EntryB ls here (3 * st .entries .b) b₀ b b′ (b-length ls all ∙ ap (λ x. 4 * (3 * x .entries .b)) (sym (so-far .state))) (so-far .in-b) (in-b may);
+          in-c = line-more EntryC ls here (3 * st .entries .c) c₀ c c′ (c-length ls all ∙ ap (λ x. 4 * (3 * x .entries .c)) (sym (so-far .state))) (so-far .in-c) (in-c may);
+          in-items = line-more Item ls here (st .pairs .items) items₀ items items′ (items-length ls all ∙ ap (λ x. 4 * x .pairs .items) (sym (so-far .state))) (so-far .in-items) (in-items may);
+          in-wits = line-more Wit ls here (st .pairs .wits) wits₀ wits wits′ (wits-length ls all ∙ ap (λ x. 4 * x .pairs .wits) (sym (so-far .state))) (so-far .in-wits) (in-wits may);
         }
 
+-- What was put into a buffer from its front on.
+pub filled : (xs held now : List ℕ) → Appended 0 xs held now → Filled xs held now
+filled xs held now put room = rw (zero-add (length xs)) at (put .1 (omega arith))
+
 -- At the sheet's end all its lines were read.
-module _ (s a b c items wits : List ℕ) (st : State) (so-far : Scanned s a b c items wits st) (over : length s ≤ st .at) where
+module _ (s a₀ b₀ c₀ items₀ wits₀ a b c items wits : List ℕ) (st : State) (so-far : Scanned s a₀ b₀ c₀ items₀ wits₀ a b c items wits st) (over : length s ≤ st .at) where
   all-lines : sheetLines s ≡ so-far .ls
   unfolding pieces
   all-lines = so-far .split ∙ rw (drop-of-length-le s over) (append-nil (so-far .ls))
@@ -186,6 +182,11 @@ module _ (s a b c items wits : List ℕ) (st : State) (so-far : Scanned s a b c 
       let e : st .at ≡ length s = omega (arith, so-far .bounded) in
       so-far .state ∙ rw (all-lines, e)
 
-  pub end-result : Result s a b c items wits st
+  pub end-result : LinesRead s st a₀ b₀ c₀ items₀ wits₀ a b c items wits
   end-result =
-      (end-ordered, (λ _. end-state, (λ _. rw all-lines (so-far .in-a), (λ _. rw all-lines (so-far .in-b), (λ _. rw all-lines (so-far .in-c), (λ _. rw all-lines (so-far .in-items), λ _. rw all-lines (so-far .in-wits)))))))
+      let in-a = filled (bytesOf EntryA (so-far .ls)) a₀ a (so-far .in-a) in
+      let in-b = filled (bytesOf EntryB (so-far .ls)) b₀ b (so-far .in-b) in
+      let in-c = filled (bytesOf EntryC (so-far .ls)) c₀ c (so-far .in-c) in
+      let in-items = filled (bytesOf Item (so-far .ls)) items₀ items (so-far .in-items) in
+      let in-wits = filled (bytesOf Wit (so-far .ls)) wits₀ wits (so-far .in-wits) in
+      (end-ordered, (λ _. end-state, (λ _. rw all-lines in-a, (λ _. rw all-lines in-b, (λ _. rw all-lines in-c, (λ _. rw all-lines in-items, λ _. rw all-lines in-wits))))))

@@ -1,9 +1,9 @@
--- What the reader keeps while it goes through the lines of a sheet.
+-- What the reader keeps while it goes through the lines of a sheet, and what it promises of them.
 use mathlib.Core.Path.{_≡_}
 use mathlib.Core.Bool.{Bool, true, cond, _&&_}
 use mathlib.Core.List.{List, [], _∷_}
 use Prim.Native.Nat.{ℕ, _+_, _*_, _≤_}
-use lib.ListN.{length, getD, take}
+use lib.ListN.{length, getD}
 use lib.Dec.{eqb}
 use Rattle.lines.specs.declared.keyword.Keyword.{Keyword}
 use Rattle.lines.specs.declared.keyword.Keyword.the-variants.{Size, EntryA, EntryB, EntryC, Item, Wit, End, None}
@@ -14,7 +14,7 @@ use Rattle.lines.specs.Cursor.{lineAt}
 use Rattle.scan.specs.declared.state.Entries.{Entries}
 use Rattle.scan.specs.declared.state.Pairs.{Pairs}
 use Rattle.scan.specs.declared.state.State.{State}
-use Rattle.scan.specs.Sheet.{follows, having, firstAt, allHave}
+use Rattle.scan.specs.Sheet.{sameKeyword, follows, ordered, sheetLines, having, firstAt, bytesOf, allHave, filled}
 
 -- The keyword of the last line; None where there is none.
 unfoldable pub lastKeyword : List Line → Keyword
@@ -99,6 +99,30 @@ Bounded size st =
     (st .at ≤ size) × (3 * st .entries .a ≤ st .at) × (3 * st .entries .b ≤ st .at) × (3 * st .entries .c ≤ st .at)
     × (st .pairs .items ≤ st .at) × (st .pairs .wits ≤ st .at) × (st .pairs .count ≤ st .at)
 
--- A buffer starts with xs, if xs fits.
-abbrev pub StartsWith : List ℕ → List ℕ → Type 0
-StartsWith xs buffer = (length xs ≤ length buffer → take (length xs) buffer ≡ xs)
+-- A buffer was filled from the front with xs, if xs fits.
+abbrev pub Filled : List ℕ → List ℕ → List ℕ → Type 0
+Filled xs held now = (length xs ≤ length held → now ≡ filled xs held)
+
+-- A state has the sizes and the entries of another.
+abbrev pub SameEntries : State → State → Type 0
+SameEntries r st = (r .sizes ≡ st .sizes) × (r .entries ≡ st .entries)
+
+-- What is promised of reading all lines of s: the last keyword tells whether the sheet is in order, and if it is, the state is the one behind the
+-- last line, and each buffer is filled.
+abbrev pub LinesRead : List ℕ → State → List ℕ → List ℕ → List ℕ → List ℕ → List ℕ → List ℕ → List ℕ → List ℕ → List ℕ → List ℕ → Type 0
+LinesRead s st a₀ b₀ c₀ items₀ wits₀ a b c items wits =
+    (sameKeyword (st .last) End ≡ ordered (sheetLines s))
+    × ((ordered (sheetLines s) ≡ true → st ≡ stateAfter (sheetLines s) (length s))
+    × ((ordered (sheetLines s) ≡ true → Filled (bytesOf EntryA (sheetLines s)) a₀ a)
+    × ((ordered (sheetLines s) ≡ true → Filled (bytesOf EntryB (sheetLines s)) b₀ b)
+    × ((ordered (sheetLines s) ≡ true → Filled (bytesOf EntryC (sheetLines s)) c₀ c)
+    × ((ordered (sheetLines s) ≡ true → Filled (bytesOf Item (sheetLines s)) items₀ items)
+    × (ordered (sheetLines s) ≡ true → Filled (bytesOf Wit (sheetLines s)) wits₀ wits))))))
+
+-- What is promised of reading its entries.
+abbrev pub EntriesRead : List ℕ → State → List ℕ → List ℕ → List ℕ → List ℕ → List ℕ → List ℕ → Type 0
+EntriesRead s st a₀ b₀ c₀ a b c =
+    (ordered (sheetLines s) ≡ true → SameEntries st (stateAfter (sheetLines s) (length s)))
+    × ((ordered (sheetLines s) ≡ true → Filled (bytesOf EntryA (sheetLines s)) a₀ a)
+    × ((ordered (sheetLines s) ≡ true → Filled (bytesOf EntryB (sheetLines s)) b₀ b)
+    × (ordered (sheetLines s) ≡ true → Filled (bytesOf EntryC (sheetLines s)) c₀ c)))

@@ -2,7 +2,7 @@
 use mathlib.Core.Bool.{Bool, false, cond, _&&_, _||_}
 use mathlib.Core.List.{List, [], _∷_, _++_, map}
 use Prim.Native.Nat.{ℕ, _+_}
-use lib.ListN.{length, getD}
+use lib.ListN.{length, getD, drop}
 use lib.Dec.{eqb}
 use Rattle.numbers.specs.Numbers.{bytes}
 use Rattle.lines.specs.declared.keyword.Keyword.{Keyword}
@@ -103,3 +103,9 @@ allHave count ls = allPass (λ l. eqb (length (l .numbers)) count) ls
 -- As many numbers on each line of a pair as the sizes give.
 abbrev pub pairsFit : List Line → Bool
 pairsFit ls = allHave (1 + m ls + n ls) (having Item ls) && allHave (k ls) (having Wit ls)
+
+-- ---- buffers
+
+-- A buffer filled from the front; what lies beyond is unchanged.
+abbrev pub filled : List ℕ → List ℕ → List ℕ
+filled xs held = xs ++ drop (length xs) held

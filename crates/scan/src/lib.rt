@@ -4,10 +4,10 @@ ghost use mathlib.Core.Bool.{true};
 ghost use mathlib.Core.List.{[], _∷_};
 ghost use Prim.Native.Nat.{_*_, _≤_, _<_};
 ghost use lib.ListN.{length};
-ghost use Rattle.lines.specs.declared.keyword.Keyword.the-variants.{EntryA, EntryB, EntryC, Item, Wit, End};
+ghost use Rattle.lines.specs.declared.keyword.Keyword.the-variants.{EntryA, EntryB, EntryC, Item, Wit};
 ghost use Rattle.lines.specs.Cursor.{nextLine, Appended};
-ghost use Rattle.scan.specs.Sheet.{sheetLines, ordered, sameKeyword, bytesOf};
-ghost use Rattle.scan.specs.Scan.{stateAfter, step, lineHere, mayStand, Bounded, StartsWith};
+ghost use Rattle.scan.specs.Sheet.{bytesOf};
+ghost use Rattle.scan.specs.Scan.{step, lineHere, mayStand, Bounded, LinesRead, EntriesRead};
 
 mod line;
 pub mod order;
@@ -76,7 +76,37 @@ fn read_line(
     }
 }
 
-// Reads the lines of s, up to its end or to the first line that breaks the rules.
+// Reads the lines of s, up to its end or to the first line that breaks the rules; where not the whole sheet is asked for, up to the first item,
+// behind which no entry stands.
+fn scan_lines(
+    s: &[u8],
+    a: &mut [u8],
+    b: &mut [u8],
+    c: &mut [u8],
+    items: &mut [u8],
+    wits: &mut [u8],
+    whole: bool,
+) -> State
+    requires { ⌜ length (now s) ≤ 60000 ⌝ }
+    ensures lines { λ r. ⌜ (whole ≡ true → LinesRead (now (s .entry)) r (now (a .entry)) (now (b .entry)) (now (c .entry)) (now (items .entry)) (now (wits .entry)) (now (a .exit)) (now (b .exit)) (now (c .exit)) (now (items .exit)) (now (wits .exit))) ⌝ }
+    ensures entries { λ r. ⌜ EntriesRead (now (s .entry)) r (now (a .entry)) (now (b .entry)) (now (c .entry)) (now (a .exit)) (now (b .exit)) (now (c .exit)) ⌝ }
+{
+    let mut st = state::start();
+    while st.at < s.len() {
+        let next = read_line(st, s, a, b, c, items, wits);
+        let last = next.last;
+        if order::is_none(last) {
+            return next;
+        }
+        if !whole & order::is_item(last) {
+            return next;
+        }
+        st = next;
+    }
+    st
+}
+
+// Reads the whole sheet.
 pub fn scan(
     s: &[u8],
     a: &mut [u8],
@@ -86,22 +116,17 @@ pub fn scan(
     wits: &mut [u8],
 ) -> State
     requires { ⌜ length (now s) ≤ 60000 ⌝ }
-    ensures ordered { λ r. ⌜ sameKeyword (r .last) End ≡ ordered (sheetLines (now (s .entry))) ⌝ }
-    ensures state { λ r. ⌜ (ordered (sheetLines (now (s .entry))) ≡ true → r ≡ stateAfter (sheetLines (now (s .entry))) (length (now (s .entry)))) ⌝ }
-    ensures a { λ _. ⌜ (ordered (sheetLines (now (s .entry))) ≡ true → StartsWith (bytesOf EntryA (sheetLines (now (s .entry)))) (now (a .exit))) ⌝ }
-    ensures b { λ _. ⌜ (ordered (sheetLines (now (s .entry))) ≡ true → StartsWith (bytesOf EntryB (sheetLines (now (s .entry)))) (now (b .exit))) ⌝ }
-    ensures c { λ _. ⌜ (ordered (sheetLines (now (s .entry))) ≡ true → StartsWith (bytesOf EntryC (sheetLines (now (s .entry)))) (now (c .exit))) ⌝ }
-    ensures items { λ _. ⌜ (ordered (sheetLines (now (s .entry))) ≡ true → StartsWith (bytesOf Item (sheetLines (now (s .entry)))) (now (items .exit))) ⌝ }
-    ensures wits { λ _. ⌜ (ordered (sheetLines (now (s .entry))) ≡ true → StartsWith (bytesOf Wit (sheetLines (now (s .entry)))) (now (wits .exit))) ⌝ }
+    ensures { λ r. ⌜ LinesRead (now (s .entry)) r (now (a .entry)) (now (b .entry)) (now (c .entry)) (now (items .entry)) (now (wits .entry)) (now (a .exit)) (now (b .exit)) (now (c .exit)) (now (items .exit)) (now (wits .exit)) ⌝ }
 {
-    let mut st = state::start();
-    while st.at < s.len() {
-        let next = read_line(st, s, a, b, c, items, wits);
-        let last = next.last;
-        if order::is_none(last) {
-            return next;
-        }
-        st = next;
-    }
-    st
+    scan_lines(s, a, b, c, items, wits, true)
+}
+
+// Reads the sizes and the entries alone.
+pub fn scan_entries(s: &[u8], a: &mut [u8], b: &mut [u8], c: &mut [u8]) -> State
+    requires { ⌜ length (now s) ≤ 60000 ⌝ }
+    ensures { λ r. ⌜ EntriesRead (now (s .entry)) r (now (a .entry)) (now (b .entry)) (now (c .entry)) (now (a .exit)) (now (b .exit)) (now (c .exit)) ⌝ }
+{
+    let mut items: [u8; 0] = [];
+    let mut wits: [u8; 0] = [];
+    scan_lines(s, a, b, c, &mut items, &mut wits, false)
 }

@@ -1,6 +1,6 @@
 // The order of lines: `size` first; then any lines `a`, then `b`, then `c`; then pairs `item` and `wit`; last `end`.
 ghost use mathlib.Core.Path.{_≡_};
-ghost use Rattle.lines.specs.declared.keyword.Keyword.the-variants.{End, None};
+ghost use Rattle.lines.specs.declared.keyword.Keyword.the-variants.{Item, End, None};
 ghost use Rattle.scan.specs.Sheet.{number, sameKeyword, follows};
 use lines::keyword::Keyword;
 
@@ -34,6 +34,12 @@ pub fn follows(last: Keyword, next: Keyword) -> bool
         Keyword::Wit => (w == 4) | (w == 6),
         Keyword::End => false,
     }
+}
+
+pub fn is_item(w: Keyword) -> bool
+    ensures { λ r. ⌜ r ≡ sameKeyword w Item ⌝ }
+{
+    number(w) == 4
 }
 
 pub fn is_end(w: Keyword) -> bool

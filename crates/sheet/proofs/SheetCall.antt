@@ -2,13 +2,14 @@
 use mathlib.Core.Path.{_≡_, sym, ap, subst, _∙_}
 use mathlib.Core.Bool.{Bool, true}
 use mathlib.Core.List.{List}
-use Prim.Native.Nat.{ℕ, _*_}
+use Prim.Native.Nat.{ℕ, _*_, _≤_, _<_}
 use native.Mathlib.Omega.{arith}
+use borrow.Author.Tests.{leb-true}
 use lib.Dec.{leb}
-use lib.ListN.{length, take}
+use lib.ListN.{length}
 use Rattle.algebra.specs.Lists.{All}
 use Rattle.numbers.proofs.Tests.{and-left, and-right}
-use Rattle.theory.specs.Checks.{answer, written}
+use Rattle.theory.specs.Checks.{answer}
 use Rattle.theory.specs.Fp.{itemSize}
 use Rattle.theory.proofs.CheckLaws.{Passed, answer-passed}
 use Rattle.checks.proofs.Calls as answers
@@ -16,12 +17,11 @@ use Rattle.lines.specs.declared.keyword.Keyword.the-variants.{EntryA, EntryB, E
 use Rattle.validation.specs.declared.reading.Reading.{Reading}
 use Rattle.scan.specs.Sheet.{sheetLines, ordered, bytesOf, pairsFit}
 use Rattle.validation.specs.SheetChecks.{countsFit, stateFits, buffersFit, sheetChecks, result}
-use Rattle.sheet.specs.Reading.{filled, readSheet}
-use Rattle.scan.specs.Scan.{stateAfter}
-use Rattle.validation.specs.Bounds.{CountBounds, BufferLengths}
+use Rattle.sheet.specs.Reading.{readSheet}
+use Rattle.scan.specs.Scan.{stateAfter, Filled}
+use Rattle.validation.specs.Bounds.{CountBounds, EntryLengths, PairLengths}
 use Rattle.validation.proofs.ByteCounts.{a-size, b-size, c-size, items-size, wits-size}
-use Rattle.validation.proofs.SheetCheckLaws.{count-bounds, state-pairs-fit, buffer-lengths, result-answer}
-use Rattle.validation.proofs.AfterScan.{Held, front}
+use Rattle.validation.proofs.SheetCheckLaws.{count-bounds, state-pairs-fit, buffer-lengths, items-most, wits-most, result-answer}
 
 -- r is the result of the checks, with what check 2 says of the call's buffers.
 pub record Called (s a b c items wits : List ℕ) (r : Reading) : Type 0 where
@@ -38,9 +38,10 @@ module _ {s a b c items wits : List ℕ} {r : Reading} (called : Called s a b c 
   the-answer = ap (λ (t : Reading). t .answer) answered ∙ result-answer (answer (sheetChecks s (buffersFit a b c items wits))) (sheetLines s)
 
   -- A refusal leaves the buffers.
-  pub left : (r .answer ≡ 0 → ⊥) → (let out = readSheet s a b c items wits in (r ≡ out .result) × ((a ≡ out .a) × ((b ≡ out .b) × ((c ≡ out .c) × ((items ≡ out .items) × (wits ≡ out .wits))))))
+  pub left : 0 < r .answer → (let out = readSheet s a b c items wits in (r ≡ out .result) × ((a ≡ out .a) × ((b ≡ out .b) × ((c ≡ out .c) × ((items ≡ out .items) × (wits ≡ out .wits))))))
   unfolding readSheet
-  left h =
+  left more =
+      let h : r .answer ≡ 0 → ⊥ = λ z. omega arith in
       (answered, (answers.refused _ a the-answer h, (answers.refused _ b the-answer h, (answers.refused _ c the-answer h, (answers.refused _ items the-answer h, answers.refused _ wits the-answer h)))))
 
   -- At acceptance every check is passed, and the result says what the lines do.
@@ -54,7 +55,10 @@ module _ {s a b c items wits : List ℕ} {r : Reading} (called : Called s a b c 
     pub read-lines : r ≡ result 0 (sheetLines s)
     read-lines = answered ∙ ap (λ (t : ℕ). result t (sheetLines s)) zero-answer
 
-    in-order : ordered (sheetLines s) ≡ true
+    pub short : length s ≤ 60000
+    short = leb-true (length s) 60000 (and-left (leb (length s) 60000) (ordered (sheetLines s)) (all-passed .0))
+
+    pub in-order : ordered (sheetLines s) ≡ true
     in-order = and-right (leb (length s) 60000) (ordered (sheetLines s)) (all-passed .0)
 
     state-fits : stateFits (stateAfter (sheetLines s) 0) ≡ true
@@ -66,7 +70,7 @@ module _ {s a b c items wits : List ℕ} {r : Reading} (called : Called s a b c 
     pub counts-bounded : CountBounds (r .m) (r .n) (r .k) (r .a) (r .b) (r .c) (r .pairs)
     counts-bounded = subst (λ (t : Reading). CountBounds (t .m) (t .n) (t .k) (t .a) (t .b) (t .c) (t .pairs)) (sym read-lines) (count-bounds (stateAfter (sheetLines s) 0) state-fits)
 
-    pub buffers-large : BufferLengths a b c items wits
+    buffers-large : EntryLengths a b c × PairLengths items wits
     buffers-large = buffer-lengths a b c items wits (and-right (countsFit (sheetLines s)) (buffersFit a b c items wits) (all-passed .1 .0))
 
     -- The lengths of what was read.
@@ -85,24 +89,15 @@ module _ {s a b c items wits : List ℕ} {r : Reading} (called : Called s a b c 
     pub wits-long : length (bytesOf Wit (sheetLines s)) ≡ 4 * (r .pairs * r .k)
     wits-long = wits-size s in-order pairs-fit ∙ ap (λ (t : Reading). 4 * (t .pairs * t .k)) (sym read-lines)
 
-    -- A buffer that was filled with the front of another, which holds xs there.
-    placed : {i : ℕ} {xs x : List ℕ} (scratch held : List ℕ) → length xs ≡ i → take (length xs) scratch ≡ xs → x ≡ filled (take i scratch) held
-        → x ≡ written (answer (sheetChecks s (buffersFit a b c items wits))) (filled xs held) held
-    placed scratch held l h w = answers.accepted held the-answer z (w ∙ ap (λ (t : List ℕ). filled t held) (front scratch l h))
-
-    -- An acceptance fills the buffers with the fronts of the scratch buffers.
-    pub placed-all : (scratch-a scratch-b scratch-c scratch-items scratch-wits : List ℕ) {xa xb xc xi xw : List ℕ} → Held s r scratch-a scratch-b scratch-c scratch-items scratch-wits
-        → (xa ≡ filled (take (12 * r .a) scratch-a) a)
-        × ((xb ≡ filled (take (12 * r .b) scratch-b) b)
-        × ((xc ≡ filled (take (12 * r .c) scratch-c) c)
-        × ((xi ≡ filled (take (r .pairs * itemSize (r .m) (r .n)) scratch-items) items)
-        × (xw ≡ filled (take (4 * (r .pairs * r .k)) scratch-wits) wits))))
+    -- An acceptance fills the buffers.
+    pub filled-all : {xa xb xc xi xw : List ℕ} → Filled (bytesOf EntryA (sheetLines s)) a xa → Filled (bytesOf EntryB (sheetLines s)) b xb → Filled (bytesOf EntryC (sheetLines s)) c xc
+        → Filled (bytesOf Item (sheetLines s)) items xi → Filled (bytesOf Wit (sheetLines s)) wits xw
         → (let out = readSheet s a b c items wits in (r ≡ out .result) × ((xa ≡ out .a) × ((xb ≡ out .b) × ((xc ≡ out .c) × ((xi ≡ out .items) × (xw ≡ out .wits))))))
     unfolding readSheet
-    placed-all scratch-a scratch-b scratch-c scratch-items scratch-wits h w =
-        let pa = placed scratch-a a a-long (h .0 z) (w .0) in
-        let pb = placed scratch-b b b-long (h .1 .0 z) (w .1 .0) in
-        let pc = placed scratch-c c c-long (h .1 .1 .0 z) (w .1 .1 .0) in
-        let pi = placed scratch-items items items-long (h .1 .1 .1 .0 z) (w .1 .1 .1 .0) in
-        let pw = placed scratch-wits wits wits-long (h .1 .1 .1 .1 z) (w .1 .1 .1 .1) in
+    filled-all put-a put-b put-c put-items put-wits =
+        let pa = answers.accepted a the-answer z (put-a (omega (arith, a-long, counts-bounded .a-most, buffers-large .0 .a-length))) in
+        let pb = answers.accepted b the-answer z (put-b (omega (arith, b-long, counts-bounded .b-most, buffers-large .0 .b-length))) in
+        let pc = answers.accepted c the-answer z (put-c (omega (arith, c-long, counts-bounded .c-most, buffers-large .0 .c-length))) in
+        let pi = answers.accepted items the-answer z (put-items (omega (arith, items-long, items-most counts-bounded, buffers-large .1 .items-length))) in
+        let pw = answers.accepted wits the-answer z (put-wits (omega (arith, wits-long, wits-most counts-bounded, buffers-large .1 .wits-length))) in
         (answered, (pa, (pb, (pc, (pi, pw)))))

@@ -1,20 +1,15 @@
 -- The sheet reader: its result, and what each buffer then holds.
-use mathlib.Core.List.{List, [], _∷_, _++_}
+use mathlib.Core.List.{List, [], _∷_}
 use Prim.Native.Nat.{ℕ}
-use lib.ListN.{length, drop}
 use Rattle.theory.specs.Checks.{answer, written}
 use Rattle.lines.specs.declared.keyword.Keyword.the-variants.{EntryA, EntryB, EntryC, Item, Wit}
-use Rattle.scan.specs.Sheet.{sheetLines, bytesOf}
+use Rattle.scan.specs.Sheet.{sheetLines, bytesOf, filled}
 use Rattle.validation.specs.declared.reading.Reading.{Reading}
 use Rattle.validation.specs.SheetChecks.{buffersFit, sheetChecks, result}
 
 -- The sizes and counts as a list of numbers.
 abbrev pub sizesOf : Reading → List ℕ
 sizesOf r = r .m ∷ r .n ∷ r .k ∷ r .a ∷ r .b ∷ r .c ∷ r .pairs ∷ []
-
--- A buffer filled from the front; what lies beyond is unchanged.
-abbrev pub filled : List ℕ → List ℕ → List ℕ
-filled xs held = xs ++ drop (length xs) held
 
 pub record ReadSheet : Type 0 where
   pub result : Reading

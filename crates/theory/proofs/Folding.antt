@@ -13,7 +13,8 @@ use Rattle.theory.specs.Combination.{quotientSize}
 use Rattle.theory.specs.Checks.{check}
 use Rattle.theory.specs.Instance.{Instance}
 use Rattle.theory.specs.Buffers.{itemBytes}
-use Rattle.theory.specs.Calls.{Folded, listChecks, claimChecks, listQuotient, newWitness, newItem, foldChecks, fold}
+use Rattle.theory.specs.Results.{Folded}
+use Rattle.theory.specs.Calls.{listChecks, claimChecks, listQuotient, newWitness, newItem, foldChecks, fold}
 use Rattle.theory.specs.Statements.{Honest, PermittedChallenge, OutputsFit}
 use Rattle.theory.proofs.CheckLaws.{Passed, true-every, passed-answer, written-accepted}
 use Rattle.theory.proofs.Equality.{same-element}

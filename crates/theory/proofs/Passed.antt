@@ -1,5 +1,5 @@
--- What a call's answer 0 says, by name: a record for each call, with a field for each check or group of checks. The order of the checks
--- is used here alone.
+-- What a call's answer 0 says, by name: a record for each call with several checks, with a field for each check or group of checks.
+-- The order of the checks is used here alone.
 use mathlib.Core.Path.{_≡_}
 use mathlib.Core.Bool.{true, _&&_}
 use mathlib.Core.List.{List, [], _∷_}

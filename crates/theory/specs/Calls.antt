@@ -1,4 +1,5 @@
--- The seven calls (paper 01, "Claims and folds" and "Checking order"): what each answers, and what each output buffer then holds.
+-- The eight calls: what each answers, and what each output buffer then holds. Seven are those of paper 01, "Claims and folds" and
+-- "Checking order"; interleaving puts openings in the order in which verifying reads them.
 -- A call's checks are listed in the paper's order, each over all its input before the next. Check 2 of a call is its `..Fits`.
 use mathlib.Core.Bool.{Bool, _&&_}
 use mathlib.Core.List.{List, [], _∷_, _++_}
@@ -9,40 +10,17 @@ use Rattle.algebra.specs.Lists.{concatTo}
 use Rattle.numbers.specs.Numbers.{numbers}
 use Rattle.numbers.specs.Equality.{sameBytes}
 use Rattle.tree.specs.Merkle.{path}
+use Rattle.tree.specs.Layout.{part}
 use Rattle.code.specs.Points.{isWitnessCount, depth}
 use Rattle.theory.specs.R1cs.{Circuit, value}
 use Rattle.theory.specs.Items.{Item, leaves}
 use Rattle.theory.specs.Combination.{itemAt, mix, newR, newX, newW, newE, quotientSize, quotientOf}
 use Rattle.theory.specs.Folds.{Opening, Shown, positionCount, valueAt, leadsTo, itemOf}
 use Rattle.theory.specs.Checks.{Check, check, answer, written, every}
+use Rattle.theory.specs.Results.{Encoded, Cast, Quotient, Folded, Opened, Interleaved}
 use Rattle.theory.specs.Instance.{Instance, sameElement, sameElements, code, codewordOf, witnessRoot}
-use Rattle.theory.specs.Buffers.{elements, circuit, itemSize, readItem, itemBytes, readItems, readWitness, openingSize, readOpenings, openingBytes}
+use Rattle.theory.specs.Buffers.{elements, circuit, itemSize, readItem, itemBytes, readItems, readWitness, openingSize, readOpenings, openingBytes, inOrder}
 use Rattle.theory.specs.Sizes.{sizes, itemCountFits, positionCountFits, circuitFits, hasLength, elementsBelow, circuitBelow, itemBelow, itemsBelow, openedBelow, circuitInOrder, positionsBelow}
-
--- ---- what a call leaves: its answer, and each output buffer
-
-pub record Encoded : Type 0 where
-  pub answer : ℕ
-  pub code : List ℕ
-  pub root : List ℕ
-
-pub record Cast : Type 0 where
-  pub answer : ℕ
-  pub item : List ℕ
-
-pub record Quotient : Type 0 where
-  pub answer : ℕ
-  pub quotient : List ℕ
-
-pub record Folded : Type 0 where
-  pub answer : ℕ
-  pub quotient : List ℕ
-  pub item : List ℕ
-  pub wit : List ℕ
-
-pub record Opened : Type 0 where
-  pub answer : ℕ
-  pub openings : List ℕ
 
 module _ (I : Instance) where
   open Instance I using (field as F, format as E, hash as H)
@@ -190,6 +168,25 @@ module _ (I : Instance) where
   «open» k t w positions openings =
       let answered = answer (openChecks k t w positions openings) in
       record { answer = answered; openings = written answered (openingsOf k t (elements I k w) (numbers positions)) openings }
+
+  -- ---- interleave: the openings of all witnesses, in the order in which verify reads them
+
+  -- The openings of witness i, of a buffer that has t for each witness, one witness after the other and the new one last.
+  abbrev pub witnessOpenings : ℕ → ℕ → List ℕ → ℕ → List ℕ
+  witnessOpenings k t opened i = part opened (i * (t * openingSize I (depth k))) (t * openingSize I (depth k))
+
+  abbrev pub interleaveFits : ℕ → ℕ → ℕ → List ℕ → List ℕ → Bool
+  interleaveFits k l t opened openings =
+      isWitnessCount k && itemCountFits l && positionCountFits k t
+      && hasLength opened (t * suc l * openingSize I (depth k)) && hasLength openings (t * suc l * openingSize I (depth k))
+
+  abbrev pub interleaveChecks : ℕ → ℕ → ℕ → List ℕ → List ℕ → List Check
+  interleaveChecks k l t opened openings = check 2 (interleaveFits k l t opened openings) ∷ []
+
+  unfoldable pub interleave : ℕ → ℕ → ℕ → List ℕ → List ℕ → Interleaved
+  interleave k l t opened openings =
+      let answered = answer (interleaveChecks k l t opened openings) in
+      record { answer = answered; openings = written answered (inOrder I (depth k) t l (witnessOpenings k t opened)) openings }
 
   -- ---- verify: sees neither circuit nor witness
 

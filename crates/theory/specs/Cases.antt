@@ -8,7 +8,7 @@ use Rattle.field.specs.BabyBear.{babyBear, R, F, val, ofℕ, 𝟘, 𝟙}
 use Rattle.theory.specs.R1cs.{Entry, Circuit, weight, value}
 use Rattle.theory.specs.Items.{Item}
 use Rattle.theory.specs.Combination.{L, newR, newX, newW, newE, combinedValue, quotientOf}
-use Rattle.theory.specs.Fp.{codewordOf}
+use Rattle.theory.specs.Fp.{codewordOf, witnessRoot}
 
 -- A case: its number in the paper, the numbers worked out, and those that the paper says.
 pub record Case : Type 0 where
@@ -49,9 +49,12 @@ witness (suc i) = listed (4 ∷ 5 ∷ [])
 abbrev pub quotient : List F
 quotient = quotientOf babyBear product 0 1 2 good witness
 
--- A list of one item, with two rows.
+-- A list of one item, with two rows, whose root is that of its witness.
+abbrev pub one : Item F
+one = record { e = ofℕ 5; r = listed (7 ∷ []); x = listed (6 ∷ []); root = witnessRoot 2 (witness 0) }
+
 abbrev pub single : List (Item F)
-single = record { e = ofℕ 5; r = listed (7 ∷ []); x = listed (6 ∷ []); root = [] } ∷ []
+single = one ∷ []
 
 abbrev pub singleQuotient : List F
 singleQuotient = quotientOf babyBear product 1 1 2 single witness
@@ -81,7 +84,8 @@ cases =
     ∷ case 8 (newXW bad 2 ++ newValue bad 2 ++ newEFrom (listed (3 ∷ [])) bad 2) (36 ∷ 6 ∷ 7 ∷ 6 ∷ 6 ∷ [])
     ∷ case 8 (newValue bad 3 ++ newEFrom (listed (3 ∷ [])) bad 3) (21 ∷ 18 ∷ [])
     ∷ case 9 (getD (codewordOf 2 (witness 0)) 0 𝟘 ∷ getD (codewordOf 2 (witness 0)) 4 𝟘 ∷ []) (5 ∷ 2013265920 ∷ [])
-    -- No coefficients; and e, r, x and w of the item come back.
+    -- No coefficients; e, r, x and w of the item come back, and so does its root: the new item's is that of the new witness.
     ∷ case 10 singleQuotient []
     ∷ case 10 (newEFrom singleQuotient single 1 ++ newR babyBear 1 single (ofℕ 1) ++ newX babyBear 1 single (ofℕ 1) ++ newW babyBear 2 1 witness (ofℕ 1)) (5 ∷ 7 ∷ 6 ∷ 2 ∷ 3 ∷ [])
+    ∷ record { number = 10; computed = witnessRoot 2 (newW babyBear 2 1 witness (ofℕ 1)); expected = one .root }
     ∷ []

@@ -1,5 +1,5 @@
 -- The field of p elements: its instance, with SHA-256, leaves of four bytes and the built-in points of the code; and the names that
--- the contracts of the calls use, each a definition of `Instance`, `Buffers`, `Sizes`, `Calls` or `Statements` for this instance.
+-- the contracts of the calls use, each a definition of `Instance`, `Buffers`, `Sizes` or `Calls` for this instance.
 use mathlib.Core.Bool.{Bool, true, _&&_}
 use mathlib.Core.List.{List, map}
 use Prim.Native.Nat.{ℕ, _*_}
@@ -15,7 +15,7 @@ use Rattle.theory.specs.Folds.{Opening, Shown}
 use Rattle.theory.specs.Checks.{Check}
 use Rattle.theory.specs.Instance.{Format, Instance}
 use Rattle.theory.specs.Buffers.{numberAt}
-use Rattle.theory.specs.Calls.{Encoded, Cast, Quotient, Folded, Opened}
+use Rattle.theory.specs.Results.{Encoded, Cast, Quotient, Folded, Opened, Interleaved}
 
 -- ---- the instance
 
@@ -202,6 +202,18 @@ openChecks = Rattle.theory.specs.Calls.openChecks fp
 abbrev pub «open» : ℕ → ℕ → List ℕ → List ℕ → List ℕ → Opened
 «open» = Rattle.theory.specs.Calls.«open» fp
 
+abbrev pub witnessOpenings : ℕ → ℕ → List ℕ → ℕ → List ℕ
+witnessOpenings = Rattle.theory.specs.Calls.witnessOpenings fp
+
+abbrev pub interleaveFits : ℕ → ℕ → ℕ → List ℕ → List ℕ → Bool
+interleaveFits = Rattle.theory.specs.Calls.interleaveFits fp
+
+abbrev pub interleaveChecks : ℕ → ℕ → ℕ → List ℕ → List ℕ → List Check
+interleaveChecks = Rattle.theory.specs.Calls.interleaveChecks fp
+
+abbrev pub interleave : ℕ → ℕ → ℕ → List ℕ → List ℕ → Interleaved
+interleave = Rattle.theory.specs.Calls.interleave fp
+
 abbrev pub readShown : ℕ → ℕ → ℕ → ℕ → ℕ → ℕ → List ℕ → List ℕ → List ℕ → Shown F
 readShown = Rattle.theory.specs.Calls.readShown fp
 
@@ -231,18 +243,3 @@ decideChecks = Rattle.theory.specs.Calls.decideChecks fp
 
 abbrev pub decide : ℕ → ℕ → ℕ → List ℕ → List ℕ → List ℕ → List ℕ → List ℕ → ℕ
 decide = Rattle.theory.specs.Calls.decide fp
-
-abbrev pub Honest : ℕ → ℕ → ℕ → ℕ → List ℕ → List ℕ → List ℕ → List ℕ → List ℕ → Type 0
-Honest = Rattle.theory.specs.Statements.Honest fp
-
-abbrev pub PermittedChallenge : ℕ → ℕ → Type 0
-PermittedChallenge = Rattle.theory.specs.Statements.PermittedChallenge fp
-
-abbrev pub folding : ℕ → ℕ → ℕ → ℕ → ℕ → ℕ → List ℕ → List ℕ → List ℕ → List ℕ → List ℕ → List ℕ → List ℕ → List ℕ → List ℕ → (ℕ → List ℕ) → Folded
-folding = Rattle.theory.specs.Statements.folding fp
-
-abbrev pub opening : ℕ → ℕ → ℕ → ℕ → ℕ → ℕ → List ℕ → List ℕ → List ℕ → List ℕ → List ℕ → List ℕ → List ℕ → List ℕ → List ℕ → (ℕ → List ℕ) → ℕ → Opened
-opening = Rattle.theory.specs.Statements.opening fp
-
-abbrev pub chainAnswers : ℕ → ℕ → ℕ → ℕ → ℕ → ℕ → List ℕ → List ℕ → List ℕ → List ℕ → List ℕ → List ℕ → List ℕ → List ℕ → List ℕ → (ℕ → List ℕ) → List ℕ
-chainAnswers = Rattle.theory.specs.Statements.chainAnswers fp

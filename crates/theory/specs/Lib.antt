@@ -3,6 +3,7 @@ pub mod Items
 pub mod Combination
 pub mod Folds
 pub mod Checks
+pub mod Results
 pub mod Instance
 pub mod Buffers
 pub mod Sizes

@@ -21,7 +21,8 @@ use Rattle.theory.specs.Checks.{answer}
 use Rattle.theory.specs.Instance.{Instance, sameElement, code, codewordOf}
 use Rattle.theory.specs.Buffers.{elements, circuit, readItems, witnessPart, readWitness, openingSize, inOrder}
 use Rattle.theory.specs.Sizes.{positionCountFits, positionsBelow, hasLength}
-use Rattle.theory.specs.Calls.{Folded, Opened, listFits, listChecks, foldOutputsFit, fold, «open», verify, decide, readShown}
+use Rattle.theory.specs.Results.{Folded, Opened}
+use Rattle.theory.specs.Calls.{listFits, listChecks, foldOutputsFit, fold, «open», verify, decide, readShown}
 
 -- ---- the quotient
 

@@ -1,10 +1,11 @@
--- After the scan of a sheet that keeps the rules and passes check 2: what the buffers hold, checks 3 and 4 of it, and an acceptance.
+-- After the scan of a sheet that keeps the rules and passes check 2: how long what was read is, checks 3 and 4 of it, and an acceptance.
 use mathlib.Core.Path.{_≡_, sym, ap, _∙_}
 use mathlib.Core.Bool.{true}
-use mathlib.Core.List.{List}
-use Prim.Native.Nat.{ℕ, _*_}
+use mathlib.Core.List.{List, []}
+use Prim.Native.Nat.{ℕ, _*_, _≤_}
 use native.Mathlib.Omega.{arith}
 use lib.ListN.{length, take}
+use lib.Seq.{take-at}
 use Rattle.theory.specs.Checks.{answer}
 use Rattle.theory.specs.Fp.{itemSize, listChecks}
 use Rattle.lines.specs.declared.keyword.Keyword.the-variants.{EntryA, EntryB, EntryC, Item, Wit}
@@ -12,42 +13,28 @@ use Rattle.validation.specs.declared.reading.Reading.{Reading}
 use Rattle.scan.specs.declared.state.State.{State}
 use Rattle.scan.specs.Sheet.{sheetLines, ordered, m, n, k, pairs, bytesOf, pairsFit}
 use Rattle.validation.specs.SheetChecks.{stateFits, result}
-use Rattle.scan.specs.Scan.{stateAfter}
-use Rattle.validation.specs.Bounds.{CountBounds, BufferLengths}
+use Rattle.validation.specs.CheckParts.{circuitChecks}
+use Rattle.scan.specs.Scan.{stateAfter, Filled, SameEntries}
+use Rattle.validation.specs.Bounds.{CountBounds, EntryLengths, PairLengths}
 use Rattle.validation.proofs.ByteCounts.{a-size, b-size, c-size, items-counted, wits-counted, items-size, wits-size}
-use Rattle.scan.proofs.Scanned.{LinesRead}
 use Rattle.validation.proofs.SheetCheckLaws.{count-bounds, state-pairs-fit, items-most, wits-most}
 
--- The sheet s, which keeps the rules and passes check 2, was scanned into the state st and buffers for any contents.
-pub record AfterScan (s : List ℕ) (st : State) (a b c items wits : List ℕ) : Type 0 where
-  pub read : LinesRead s st a b c items wits
+-- The sheet s, which keeps the rules and passes check 2, was scanned, and st is the state behind it.
+pub record AfterScan (s : List ℕ) (st : State) : Type 0 where
+  pub state : st ≡ stateAfter (sheetLines s) (length s)
   pub is-ordered : ordered (sheetLines s) ≡ true
   pub fits : stateFits st ≡ true
-  pub large : BufferLengths a b c items wits
 
--- Where the answer is 0, each buffer holds at its front what was read.
-abbrev pub Held : List ℕ → Reading → List ℕ → List ℕ → List ℕ → List ℕ → List ℕ → Type 0
-Held s r a b c items wits =
-    (r .answer ≡ 0 → take (length (bytesOf EntryA (sheetLines s))) a ≡ bytesOf EntryA (sheetLines s))
-    × ((r .answer ≡ 0 → take (length (bytesOf EntryB (sheetLines s))) b ≡ bytesOf EntryB (sheetLines s))
-    × ((r .answer ≡ 0 → take (length (bytesOf EntryC (sheetLines s))) c ≡ bytesOf EntryC (sheetLines s))
-    × ((r .answer ≡ 0 → take (length (bytesOf Item (sheetLines s))) items ≡ bytesOf Item (sheetLines s))
-    × (r .answer ≡ 0 → take (length (bytesOf Wit (sheetLines s))) wits ≡ bytesOf Wit (sheetLines s)))))
+-- The front of a buffer into which xs was put.
+front : {i : ℕ} (xs held now : List ℕ) → Filled xs held now → length xs ≡ i → i ≤ length held → take i now ≡ xs
+front {i} xs held now put e room = ap (take i) (put (omega arith)) ∙ take-at xs _ i e
 
--- The front that holds xs, by another name for its length.
-pub front : {i : ℕ} {xs : List ℕ} (held : List ℕ) → length xs ≡ i → take (length xs) held ≡ xs → take i held ≡ xs
-front held e h = ap (λ (j : ℕ). take j held) (sym e) ∙ h
-
--- Equal lists give equal answers.
-of-five : (f : List ℕ → List ℕ → List ℕ → List ℕ → List ℕ → ℕ) {a a' b b' c c' d d' e e' : List ℕ} → a ≡ a' → b ≡ b' → c ≡ c' → d ≡ d' → e ≡ e' → f a b c d e ≡ f a' b' c' d' e'
-of-five f p q r s t = cc
-
-module _ {s : List ℕ} {st : State} {a b c items wits : List ℕ} (scanned : AfterScan s st a b c items wits) where
+module _ {s : List ℕ} {st : State} (scanned : AfterScan s st) where
   abbrev is-ordered : ordered (sheetLines s) ≡ true
   is-ordered = scanned .is-ordered
 
-  state : st ≡ stateAfter (sheetLines s) (length s)
-  state = scanned .read .0 is-ordered
+  abbrev state : st ≡ stateAfter (sheetLines s) (length s)
+  state = scanned .state
 
   pub bounds : CountBounds (st .sizes .m) (st .sizes .n) (st .sizes .k) (st .entries .a) (st .entries .b) (st .entries .c) (st .pairs .count)
   bounds = count-bounds st (scanned .fits)
@@ -77,34 +64,47 @@ module _ {s : List ℕ} {st : State} {a b c items wits : List ℕ} (scanned : Af
   pub wits-whole : 4 * st .pairs .wits ≡ 4 * (st .pairs .count * st .sizes .k)
   wits-whole = sym wits-long ∙ (wits-size s is-ordered pairs-fit ∙ ap (λ (t : State). 4 * (t .pairs .count * t .sizes .k)) (sym state))
 
-  -- Each buffer holds it at its front.
-  a-held : take (length (bytesOf EntryA (sheetLines s))) a ≡ bytesOf EntryA (sheetLines s)
-  a-held = scanned .read .1 .0 is-ordered (omega (arith, a-long, bounds .a-most, scanned .large .a-length))
+  -- Check 3 of the pairs at the fronts of the buffers is that of the lines.
+  pub pairs-same : (items₀ wits₀ items wits : List ℕ) → PairLengths items₀ wits₀ → Filled (bytesOf Item (sheetLines s)) items₀ items → Filled (bytesOf Wit (sheetLines s)) wits₀ wits
+      → answer (listChecks (st .sizes .m) (st .sizes .n) (st .sizes .k) (st .pairs .count) [] [] [] (take (4 * st .pairs .items) items) (take (4 * st .pairs .wits) wits))
+      ≡ (let ls = sheetLines s in answer (listChecks (m ls) (n ls) (k ls) (pairs ls) [] [] [] (bytesOf Item ls) (bytesOf Wit ls)))
+  pairs-same items₀ wits₀ items wits large put-items put-wits =
+      let i = front (bytesOf Item (sheetLines s)) items₀ items put-items items-long (omega (arith, items-whole, items-most bounds, large .items-length)) in
+      let w = front (bytesOf Wit (sheetLines s)) wits₀ wits put-wits wits-long (omega (arith, wits-whole, wits-most bounds, large .wits-length)) in
+      rw (i, w) (ap (λ (t : State). answer (listChecks (t .sizes .m) (t .sizes .n) (t .sizes .k) (t .pairs .count) [] [] [] (bytesOf Item (sheetLines s)) (bytesOf Wit (sheetLines s)))) state)
 
-  b-held : take (length (bytesOf EntryB (sheetLines s))) b ≡ bytesOf EntryB (sheetLines s)
-  b-held = scanned .read .1 .1 .0 is-ordered (omega (arith, b-long, bounds .b-most, scanned .large .b-length))
-
-  c-held : take (length (bytesOf EntryC (sheetLines s))) c ≡ bytesOf EntryC (sheetLines s)
-  c-held = scanned .read .1 .1 .1 .0 is-ordered (omega (arith, c-long, bounds .c-most, scanned .large .c-length))
-
-  items-held : take (length (bytesOf Item (sheetLines s))) items ≡ bytesOf Item (sheetLines s)
-  items-held = scanned .read .1 .1 .1 .1 .0 is-ordered (omega (arith, items-long, items-whole, items-most bounds, scanned .large .items-length))
-
-  wits-held : take (length (bytesOf Wit (sheetLines s))) wits ≡ bytesOf Wit (sheetLines s)
-  wits-held = scanned .read .1 .1 .1 .1 .1 is-ordered (omega (arith, wits-long, wits-whole, wits-most bounds, scanned .large .wits-length))
-
-  -- Checks 3 and 4 of the fronts are those of the lines.
-  pub contents-same : answer (listChecks (st .sizes .m) (st .sizes .n) (st .sizes .k) (st .pairs .count) (take (12 * st .entries .a) a) (take (12 * st .entries .b) b) (take (12 * st .entries .c) c) (take (4 * st .pairs .items) items) (take (4 * st .pairs .wits) wits))
-      ≡ (let ls = sheetLines s in answer (listChecks (m ls) (n ls) (k ls) (pairs ls) (bytesOf EntryA ls) (bytesOf EntryB ls) (bytesOf EntryC ls) (bytesOf Item ls) (bytesOf Wit ls)))
-  contents-same =
-      ap (λ (t : State). answer (listChecks (t .sizes .m) (t .sizes .n) (t .sizes .k) (t .pairs .count) (take (12 * st .entries .a) a) (take (12 * st .entries .b) b) (take (12 * st .entries .c) c) (take (4 * st .pairs .items) items) (take (4 * st .pairs .wits) wits))) state
-      ∙ of-five (λ x y z u v. let ls = sheetLines s in answer (listChecks (m ls) (n ls) (k ls) (pairs ls) x y z u v))
-      (front a a-long a-held) (front b b-long b-held) (front c c-long c-held) (front items items-long items-held) (front wits wits-long wits-held)
-
-  -- What an acceptance promises: the result, and what each buffer holds.
-  same : record { answer = 0; m = st .sizes .m; n = st .sizes .n; k = st .sizes .k; a = st .entries .a; b = st .entries .b; c = st .entries .c; pairs = st .pairs .count } ≡ result 0 (sheetLines s)
-  same = ap (λ (t : State). record { answer = 0; m = t .sizes .m; n = t .sizes .n; k = t .sizes .k; a = t .entries .a; b = t .entries .b; c = t .entries .c; pairs = t .pairs .count }) state
-
+  -- What an acceptance gives.
   pub accepted : {r : Reading} {y : ℕ} → r ≡ record { answer = 0; m = st .sizes .m; n = st .sizes .n; k = st .sizes .k; a = st .entries .a; b = st .entries .b; c = st .entries .c; pairs = st .pairs .count } → 0 ≡ y
-      → (r ≡ result y (sheetLines s)) × Held s r a b c items wits
-  accepted e z = (e ∙ (same ∙ ap (λ (t : ℕ). result t (sheetLines s)) z), ((λ h. a-held), ((λ h. b-held), ((λ h. c-held), ((λ h. items-held), (λ h. wits-held))))))
+      → r ≡ result y (sheetLines s)
+  accepted e z =
+      e
+      ∙ (ap (λ (t : State). record { answer = 0; m = t .sizes .m; n = t .sizes .n; k = t .sizes .k; a = t .entries .a; b = t .entries .b; c = t .entries .c; pairs = t .pairs .count }) state
+      ∙ ap (λ (t : ℕ). result t (sheetLines s)) z)
+
+-- The entries of such a sheet were read, and st is the state behind them.
+module _ {s : List ℕ} (whole : AfterScan s (stateAfter (sheetLines s) (length s))) (st : State) (same : SameEntries st (stateAfter (sheetLines s) (length s))) where
+  pub entry-bounds : CountBounds (st .sizes .m) (st .sizes .n) (st .sizes .k) (st .entries .a) (st .entries .b) (st .entries .c) 0
+  entry-bounds =
+      let most = bounds whole in
+      rw (same .0, same .1) (
+      record {
+        m-most = most .m-most;
+        n-most = most .n-most;
+        k-counts = most .k-counts;
+        k-most = most .k-most;
+        a-most = most .a-most;
+        b-most = most .b-most;
+        c-most = most .c-most;
+        pairs-most = omega arith;
+      })
+
+  -- Checks 3 and 4 of the circuit at the fronts of the buffers are those of the lines.
+  pub circuit-same : (a₀ b₀ c₀ a b c : List ℕ) → EntryLengths a₀ b₀ c₀
+      → Filled (bytesOf EntryA (sheetLines s)) a₀ a → Filled (bytesOf EntryB (sheetLines s)) b₀ b → Filled (bytesOf EntryC (sheetLines s)) c₀ c
+      → answer (listChecks (st .sizes .m) (st .sizes .n) (st .sizes .k) 0 (take (12 * st .entries .a) a) (take (12 * st .entries .b) b) (take (12 * st .entries .c) c) [] [])
+      ≡ answer (circuitChecks (sheetLines s))
+  circuit-same a₀ b₀ c₀ a b c large put-a put-b put-c =
+      let p = front (bytesOf EntryA (sheetLines s)) a₀ a put-a (a-long whole) (omega (arith, bounds whole .a-most, large .a-length)) in
+      let q = front (bytesOf EntryB (sheetLines s)) b₀ b put-b (b-long whole) (omega (arith, bounds whole .b-most, large .b-length)) in
+      let r = front (bytesOf EntryC (sheetLines s)) c₀ c put-c (c-long whole) (omega (arith, bounds whole .c-most, large .c-length)) in
+      rw (same .0, same .1, p, q, r)

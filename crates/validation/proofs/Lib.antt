@@ -1,3 +1,4 @@
 pub mod AfterScan
 pub mod ByteCounts
+pub mod PartLaws
 pub mod SheetCheckLaws

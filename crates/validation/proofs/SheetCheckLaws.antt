@@ -1,5 +1,5 @@
 -- The checks of a sheet: what check 1 and check 2 show, and what a refusal gives.
-use mathlib.Core.Path.{_≡_, refl, sym, ap, _∙_}
+use mathlib.Core.Path.{_≡_, refl, ap, _∙_}
 use mathlib.Core.Bool.{Bool, true}
 use mathlib.Core.List.{List, [], _∷_}
 use Prim.Native.Nat.{ℕ, zero, suc, _*_, _≤_, _<_}
@@ -20,12 +20,13 @@ use Rattle.lines.specs.Lines.{Line}
 use Rattle.validation.specs.declared.reading.Reading.{Reading}
 use Rattle.scan.specs.declared.state.State.{State}
 use Rattle.scan.specs.Sheet.{sheetLines, ordered}
-use Rattle.validation.specs.SheetChecks.{keepsRules, stateFits, buffersFit, sheetChecks, result}
-use Rattle.validation.specs.Bounds.{CountBounds, BufferLengths}
+use Rattle.validation.specs.SheetChecks.{keepsRules, stateFits, buffersFit, result}
+use Rattle.validation.specs.CheckParts.{pairChecks}
+use Rattle.validation.specs.Bounds.{CountBounds, EntryLengths, PairLengths}
 
 -- ---- check 1
 
-pub too-long : (s : List ℕ) (lengths : Bool) → 60000 < length s → 1 ≡ answer (sheetChecks s lengths)
+pub too-long : (s : List ℕ) (lengths : Bool) → 60000 < length s → 1 ≡ answer (pairChecks s lengths)
 too-long s lengths h = fails 1 _ (and-fails (ordered (sheetLines s)) (lt-leb (length s) 60000 h)) refl
 
 pub short : (s : List ℕ) {r : Bool} → length s ≤ 60000 → r ≡ ordered (sheetLines s) → r ≡ keepsRules s
@@ -64,16 +65,19 @@ module _ (st : State) (fits : stateFits st ≡ true) where
   state-pairs-fit = each .1 .1 .1 .1 .1 .1 .1 .1 .1 .0
 
 -- The buffers have the greatest lengths.
-pub buffer-lengths : (a b c items wits : List ℕ) → buffersFit a b c items wits ≡ true → BufferLengths a b c items wits
+pub buffer-lengths : (a b c items wits : List ℕ) → buffersFit a b c items wits ≡ true → EntryLengths a b c × PairLengths items wits
 buffer-lengths a b c items wits fits =
-    let t = each-true (hasLength a 12288) (hasLength b 12288 ∷ hasLength c 12288 ∷ hasLength items 20224 ∷ hasLength wits 16384 ∷ []) fits in
-    record {
-      a-length = eqb-true (length a) 12288 (t .0);
-      b-length = eqb-true (length b) 12288 (t .1 .0);
-      c-length = eqb-true (length c) 12288 (t .1 .1 .0);
-      items-length = eqb-true (length items) 20224 (t .1 .1 .1 .0);
-      wits-length = eqb-true (length wits) 16384 (t .1 .1 .1 .1 .0);
-    }
+    let t = each-true (hasLength a 12288) (hasLength b 12288 ∷ hasLength c 12288 ∷ hasLength items 20224 ∷ hasLength wits 16384 ∷ []) fits in (
+      record {
+        a-length = eqb-true (length a) 12288 (t .0);
+        b-length = eqb-true (length b) 12288 (t .1 .0);
+        c-length = eqb-true (length c) 12288 (t .1 .1 .0);
+      },
+      record {
+        items-length = eqb-true (length items) 20224 (t .1 .1 .1 .0);
+        wits-length = eqb-true (length wits) 16384 (t .1 .1 .1 .1 .0);
+      },
+    )
 
 -- The greatest contents fit.
 module _ {m n k a b c pairs : ℕ} (bounds : CountBounds m n k a b c pairs) where
@@ -98,9 +102,6 @@ pub result-answer : (x : ℕ) (ls : List Line) → result x ls .answer ≡ x
 result-answer zero ls = refl
 result-answer (suc x) ls = refl
 
--- What a refusal with the answer x promises: x is the answer y that is defined, and nothing is said of the buffers.
-pub refused : {A B C D E : Type 0} {r : Reading} {x y : ℕ} (ls : List Line) → r ≡ result x [] → 0 < x → x ≡ y
-    → (r ≡ result y ls) × ((r .answer ≡ 0 → A) × ((r .answer ≡ 0 → B) × ((r .answer ≡ 0 → C) × ((r .answer ≡ 0 → D) × (r .answer ≡ 0 → E)))))
-refused {r} {x} {y} ls e h i =
-    let none : r .answer ≡ 0 → ⊥ = λ z. let w : x ≡ 0 = sym (result-answer x []) ∙ (sym (ap (λ (t : Reading). t .answer) e) ∙ z) in omega arith in
-    (e ∙ (refusal-lines x ls h ∙ ap (λ (t : ℕ). result t ls) i), ((λ z. absurd (none z)), ((λ z. absurd (none z)), ((λ z. absurd (none z)), ((λ z. absurd (none z)), (λ z. absurd (none z)))))))
+-- A refusal with the answer x, which is the answer y that is defined.
+pub refused : {r : Reading} {x y : ℕ} (ls : List Line) → r ≡ result x [] → 0 < x → x ≡ y → r ≡ result y ls
+refused {r} {x} {y} ls e h i = e ∙ (refusal-lines x ls h ∙ ap (λ (t : ℕ). result t ls) i)

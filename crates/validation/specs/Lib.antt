@@ -1,2 +1,3 @@
 pub mod SheetChecks
+pub mod CheckParts
 pub mod Bounds

@@ -1,7 +1,7 @@
-// The seven calls and the sheet reader for C. Each tests its own input and answers 0, or the number of the first check that fails; a refusal writes nothing.
+// The eight calls and the sheet reader for C. Each tests its own input and answers 0, or the number of the first check that fails; a refusal writes nothing.
 ghost use mathlib.Core.Path.{_≡_};
 ghost use Rattle.theory.specs.Checks.{written};
-ghost use Rattle.theory.specs.Fp.{encode, cast, quotient, fold, «open», verify, decide};
+ghost use Rattle.theory.specs.Fp.{encode, cast, quotient, fold, «open», interleave, verify, decide};
 ghost use Rattle.sheet.specs.Reading.{readSheet, sizesOf};
 
 // Writes the codeword of a witness and its root. Checks 2 and 3.
@@ -106,6 +106,21 @@ pub extern "C" fn lomvuze_open(
     ensures openings { λ r. ⌜ now (openings .exit) ≡ «open» k t (now (w .entry)) (now (positions .entry)) (now (openings .entry)) .openings ⌝ }
 {
     encoder::open::open(k, t, w, positions, openings)
+}
+
+// Writes the openings of l + 1 witnesses, the new one's last, in the order in which lomvuze_verify reads them. Check 2.
+#[no_mangle]
+pub extern "C" fn lomvuze_interleave(
+    k: u32,
+    l: u32,
+    t: u32,
+    opened: &[u8],
+    openings: &mut [u8],
+) -> u32
+    ensures answer { λ r. ⌜ r ≡ interleave k l t (now (opened .entry)) (now (openings .entry)) .answer ⌝ }
+    ensures openings { λ r. ⌜ now (openings .exit) ≡ interleave k l t (now (opened .entry)) (now (openings .entry)) .openings ⌝ }
+{
+    encoder::interleave::interleave(k, l, t, opened, openings)
 }
 
 // Verifies a fold. Checks 2, 3 and 5 to 9.

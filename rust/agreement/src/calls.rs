@@ -2,22 +2,20 @@
 //! and encoding and deciding for the one witness whose tree is worked out.
 
 use crate::claims::combined;
-use crate::codes;
-use crate::instance::{self, element_bytes, entry_bytes, item_bytes, Instance};
+use crate::inputs::{edges, honest_calls, worked_out};
 use crate::text::{list, Equation, File};
-use lomvuze_reference::claims::{self, Item};
+use lomvuze_reference::calls;
 use lomvuze_reference::field::P;
-use lomvuze_reference::{calls, code};
-use lomvuze_samples::{bytes, put, Chain, Honest, Random, REFERENCE};
+use lomvuze_samples::{put, Random};
 use std::collections::BTreeMap;
 
 /// A call with its numbers and then its buffers, of which the last ones are written.
 #[derive(Clone)]
-struct Call {
-    name: &'static str,
-    numbers: Vec<u32>,
-    buffers: Vec<Vec<u8>>,
-    outputs: &'static [&'static str],
+pub struct Call {
+    pub name: &'static str,
+    pub numbers: Vec<u32>,
+    pub buffers: Vec<Vec<u8>>,
+    pub outputs: &'static [&'static str],
 }
 
 impl Call {
@@ -45,6 +43,10 @@ impl Call {
             "«open»" => {
                 let [w, positions, openings] = &mut b[..] else { panic!() };
                 calls::open(n[0], n[1], w, positions, openings)
+            }
+            "interleave" => {
+                let [opened, openings] = &mut b[..] else { panic!() };
+                calls::interleave(n[0], n[1], n[2], opened, openings)
             }
             "verify" => {
                 let [items, positions, quotient, item, openings] = &b[..] else { panic!() };
@@ -87,9 +89,10 @@ impl Call {
                     .to_string(),
             ),
             ("cast", 11) => (format!("{tests} babyBear val ofℕ"), format!("cast-runs {arguments} ∙ refl")),
-            ("decide", 0 | 10 | 11) => {
-                (format!("{tests} itemAt babyBear val ofℕ"), format!("decide-runs {arguments} _ root-is ∙ refl"))
-            }
+            ("decide", 0 | 10 | 11) => (
+                format!("{tests} itemAt babyBear val ofℕ"),
+                format!("decide-runs {arguments} _ root-is ∙ refl"),
+            ),
             ("verify", 7) => (
                 format!("{tests} depth itemAt val"),
                 format!("verify-runs {arguments} ∙ {}", combined(self.numbers[3] as usize)),
@@ -155,176 +158,12 @@ impl Call {
     }
 }
 
-/// The seven calls for an honest list of small sizes.
-fn honest_calls(random: &mut Random) -> Vec<Call> {
-    let (m, n, k, l) = (random.below(2), 1, 2, 1 + random.below(2));
-    let instance = Instance::random(random, m, n, k, l);
-    let list = Honest {
-        m: m as u32,
-        n: n as u32,
-        k: k as u32,
-        l: l as u32,
-        a: entry_bytes(&instance.circuit.a),
-        b: entry_bytes(&instance.circuit.b),
-        c: entry_bytes(&instance.circuit.c),
-        items: instance.items.iter().flat_map(item_bytes).collect(),
-        witnesses: instance.witnesses.iter().flat_map(|w| element_bytes(w)).collect(),
-    };
-    let challenge = (l + random.below(5)) as u32;
-    let positions = [random.below(4 * k) as u32];
-    let t = positions.len() as u32;
-    let chain = Chain::new(&REFERENCE, &list, challenge, &positions);
-
-    let (m, n, k, l) = (list.m, list.n, list.k, list.l);
-    let matrices = [list.a.clone(), list.b.clone(), list.c.clone()];
-    let (item, w) = (&instance.items[0], list.witnesses[..list.witness_length()].to_vec());
-    let (r, x) = (element_bytes(&item.r), element_bytes(&item.x));
-    let mut empty = |length| random.bytes(length);
-    let lists = [&matrices[..], &[list.items.clone(), list.witnesses.clone()]].concat();
-    vec![
-        Call {
-            name: "encode",
-            numbers: vec![k],
-            buffers: vec![w.clone(), empty(16 * k as usize), empty(32)],
-            outputs: &["code", "root"],
-        },
-        Call {
-            name: "cast",
-            numbers: vec![m, n, k],
-            buffers: [&matrices[..], &[r, x, w.clone(), empty(list.item_length())]].concat(),
-            outputs: &["item"],
-        },
-        Call {
-            name: "quotient",
-            numbers: vec![m, n, k, l],
-            buffers: [&lists[..], &[empty(list.quotient_length())]].concat(),
-            outputs: &["quotient"],
-        },
-        Call {
-            name: "fold",
-            numbers: vec![m, n, k, l, challenge],
-            buffers: [
-                &lists[..],
-                &[empty(list.quotient_length()), empty(list.item_length()), empty(list.witness_length())],
-            ]
-            .concat(),
-            outputs: &["quotient", "item", "wit"],
-        },
-        Call {
-            name: "«open»",
-            numbers: vec![k, t],
-            buffers: vec![w.clone(), bytes(&positions), empty(t as usize * list.opening_length())],
-            outputs: &["openings"],
-        },
-        Call {
-            name: "verify",
-            numbers: vec![m, n, k, l, t, challenge],
-            buffers: vec![
-                list.items.clone(),
-                chain.positions,
-                chain.quotient,
-                chain.new_item.clone(),
-                chain.openings,
-            ],
-            outputs: &[],
-        },
-        Call {
-            name: "decide",
-            numbers: vec![m, n, k],
-            buffers: [&matrices[..], &[chain.new_item, chain.new_witness]].concat(),
-            outputs: &[],
-        },
-    ]
-}
-
 /// How many equations each call gets for each answer.
 const EACH: usize = 6;
 
-/// Whether the prover can run the call: it is refused before hashing.
+/// Whether the prover can run the call: it hashes nothing, or is refused before it does.
 fn runs_unhashed(name: &str, answer: u32) -> bool {
-    (2..7).contains(&answer) || (name, answer) == ("cast", 11) || (name, answer) == ("verify", 7)
-}
-
-/// Encoding and deciding for the one witness: items of its own root that hold, that do not, and of other roots.
-fn worked_out(random: &mut Random) -> Vec<Call> {
-    let w = codes::witness();
-    let k = w.len() as u32;
-    let wit = element_bytes(&w);
-    let mut all = vec![Call {
-        name: "encode",
-        numbers: vec![k],
-        buffers: vec![wit.clone(), random.bytes(16 * k as usize), random.bytes(32)],
-        outputs: &["code", "root"],
-    }];
-    for i in 0..12 {
-        let (m, n) = (random.below(3), 1 + random.below(2));
-        let matrices = instance::circuit(random, m, n + w.len());
-        let (r, x) = (random.elements(m), random.elements(n));
-        let mut item = Item { e: claims::value(&matrices, &r, &x, &w), r, x, root: code::root(&w) };
-        if i % 3 == 1 {
-            item.e = random.element();
-        }
-        if i % 3 == 2 {
-            item.root[random.below(32)] ^= 1;
-        }
-        all.push(Call {
-            name: "decide",
-            numbers: vec![m as u32, n as u32, k],
-            buffers: vec![
-                entry_bytes(&matrices.a),
-                entry_bytes(&matrices.b),
-                entry_bytes(&matrices.c),
-                item_bytes(&item),
-                wit.clone(),
-            ],
-            outputs: &[],
-        });
-    }
-    all
-}
-
-/// Calls with one number at an edge: on either side of what a check permits.
-fn edges(random: &mut Random) -> Vec<Call> {
-    let mut all = vec![];
-    for call in honest_calls(random) {
-        let n = &call.numbers;
-        let (k, l, rows) = match call.name {
-            "encode" | "«open»" => (n[0], 1, 1),
-            "fold" | "verify" => (n[2], n[3], 1 << n[0]),
-            _ => (n[2], 1, 1 << n[0]),
-        };
-        if let "fold" | "verify" = call.name {
-            for challenge in [l - 1, l, P - 1, P] {
-                let mut edge = call.clone();
-                *edge.numbers.last_mut().unwrap() = challenge;
-                all.push(edge);
-            }
-        }
-        let circuit = matches!(call.name, "cast" | "quotient" | "fold" | "decide");
-        for i in 0..call.buffers.len() - call.outputs.len() {
-            let last = call.buffers[i].len().saturating_sub(12);
-            let numbers = match (circuit && i < 3, call.name, i) {
-                (true, _, _) => vec![
-                    (last, rows - 1),
-                    (last, rows),
-                    (last + 4, n[1] + k - 1),
-                    (last + 4, n[1] + k),
-                    (last + 8, P - 1),
-                    (last + 8, P),
-                ],
-                (_, "«open»" | "verify", 1) => vec![(0, 4 * k - 1), (0, 4 * k)],
-                _ => vec![(0, P - 1), (0, P)],
-            };
-            for (at, number) in numbers {
-                let mut edge = call.clone();
-                if at + 4 <= edge.buffers[i].len() {
-                    put(&mut edge.buffers[i], at, number);
-                    all.push(edge);
-                }
-            }
-        }
-    }
-    all
+    (2..7).contains(&answer) || matches!((name, answer), ("cast", 11) | ("verify", 7) | ("interleave", 0))
 }
 
 pub fn answers() -> File {
@@ -356,9 +195,9 @@ use Rattle.code.specs.Points.{depth}
 use lib.ListN.{take}
 use Rattle.theory.specs.Checks.{every, answer}
 use Rattle.theory.specs.Combination.{itemAt}
-use Rattle.theory.specs.Calls.{encode as encodeOver, cast as castOver, quotient as quotientOver, fold as foldOver, «open» as openOver, verify as verifyOver, decide as decideOver}
-use Rattle.theory.specs.Fp.{encode, cast, quotient, fold, «open», verify, decide}
-use Rattle.theory.specs.Fp.{encodeChecks, castChecks, quotientChecks, foldChecks, openChecks, verifyChecks, decideChecks}
+use Rattle.theory.specs.Calls.{encode as encodeOver, cast as castOver, quotient as quotientOver, fold as foldOver, «open» as openOver, interleave as interleaveOver, verify as verifyOver, decide as decideOver}
+use Rattle.theory.specs.Fp.{encode, cast, quotient, fold, «open», interleave, verify, decide}
+use Rattle.theory.specs.Fp.{encodeChecks, castChecks, quotientChecks, foldChecks, openChecks, interleaveChecks, verifyChecks, decideChecks}
 use Rattle.agreement.specs.Elements.{listed}
 use Rattle.agreement.specs.Runs.{cast-runs, decide-runs, verify-runs}
 use Rattle.agreement.specs.Inverses.{inverse-0-1, inverse-1-0}

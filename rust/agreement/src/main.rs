@@ -6,6 +6,7 @@
 mod calls;
 mod claims;
 mod codes;
+mod inputs;
 mod instance;
 mod text;
 

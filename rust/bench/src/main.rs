@@ -6,8 +6,11 @@
 //! time, so that other work on the machine disturbs it less.
 
 mod calls;
+mod checks;
+mod claims;
 mod clock;
 mod plain;
+mod plain_scan;
 mod plain_sheet;
 
 use lomvuze_proved as proved;
@@ -121,16 +124,7 @@ fn main() {
         out
     });
 
-    println!("\nThe calls at m = 6, n = 64, k = 64, l = 8 and 1,024 entries in each list");
-    compare_call("encode", Name::Encode, 1);
-    compare_call("cast", Name::Cast, 1);
-    compare_call("quotient", Name::Quotient, 1);
-    compare_call("fold", Name::Fold, 1);
-    compare_call("open, t = 64", Name::Open, 64);
-    compare_call("open, t = 256", Name::Open, 256);
-    compare_call("verify, t = 64", Name::Verify, 64);
-    compare_call("verify, t = 256", Name::Verify, 256);
-    compare_call("decide", Name::Decide, 1);
+    compare_calls();
 
     println!(
         "\n{:<34} {:>12} {:>12} {:>8}",
@@ -138,6 +132,21 @@ fn main() {
     );
     compare_sheet("3,072 entries, 64 pairs", &GREATEST);
     compare_sheet("24 entries, 40 pairs, long numbers", &Shape { entries: [8; 3], pairs: 40, ..GREATEST });
+}
+
+/// Every call.
+fn compare_calls() {
+    println!("\nThe calls at m = 6, n = 64, k = 64, l = 8 and 1,024 entries in each list");
+    compare_call("encode", Name::Encode, 1);
+    compare_call("cast", Name::Cast, 1);
+    compare_call("quotient", Name::Quotient, 1);
+    compare_call("fold", Name::Fold, 1);
+    compare_call("open, t = 64", Name::Open, 64);
+    compare_call("open, t = 256", Name::Open, 256);
+    compare_call("interleave, t = 256", Name::Interleave, 256);
+    compare_call("verify, t = 64", Name::Verify, 64);
+    compare_call("verify, t = 256", Name::Verify, 256);
+    compare_call("decide", Name::Decide, 1);
 }
 
 const PROVED: Library = library!(verdicts);

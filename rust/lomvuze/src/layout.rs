@@ -1,10 +1,7 @@
 //! The byte layout of `include/lomvuze.h`: all that converts to it and from it.
 
-use crate::sizes::{MAX_ENTRIES, MAX_L, MOST_NUMBERS};
 use crate::{Digest, Entry, Item, Opening, Refusal, Sizes};
 use std::iter::once;
-
-// ---- To bytes and back
 
 /// Numbers in four bytes each, lowest first.
 ///
@@ -24,9 +21,8 @@ pub fn numbers_to_bytes(numbers: &[u32]) -> Vec<u8> {
 /// ```
 /// use lomvuze::{numbers_from_bytes, Refusal};
 ///
-/// assert_eq!(numbers_from_bytes(&[2, 1, 0, 0, 3, 0, 0, 0])?, [258, 3]);
+/// assert_eq!(numbers_from_bytes(&[2, 1, 0, 0, 3, 0, 0, 0]), Ok(vec![258, 3]));
 /// assert_eq!(numbers_from_bytes(&[2, 1, 0]), Err(Refusal::Sizes));
-/// # Ok::<(), Refusal>(())
 /// ```
 pub fn numbers_from_bytes(bytes: &[u8]) -> Result<Vec<u32>, Refusal> {
     bytes.chunks(4).map(|number| Ok(u32::from_le_bytes(exactly(number)?))).collect()
@@ -54,12 +50,12 @@ impl Entry {
     ///
     /// let entry = Entry { row: 0, column: 2, value: 1 };
     /// assert_eq!(Entry::from_bytes(&entry.to_bytes()), Ok(entry));
+    /// assert_eq!(Entry::from_bytes(&[0; 13]), Err(Refusal::Sizes));
     ///
     /// // A list of entries that is stored without gaps.
     /// let stored = [entry.to_bytes(), entry.to_bytes()].concat();
-    /// let list: Vec<Entry> = stored.chunks(12).map(Entry::from_bytes).collect::<Result<_, _>>()?;
-    /// assert_eq!(list, [entry, entry]);
-    /// # Ok::<(), Refusal>(())
+    /// let list: Result<Vec<Entry>, Refusal> = stored.chunks(12).map(Entry::from_bytes).collect();
+    /// assert_eq!(list, Ok(vec![entry, entry]));
     /// ```
     pub fn from_bytes(bytes: &[u8]) -> Result<Entry, Refusal> {
         match numbers_from_bytes(bytes)?[..] {
@@ -83,10 +79,10 @@ impl Item {
     /// [`Refusal::Sizes`] where there are not [`Sizes::item_bytes`] bytes.
     ///
     /// ```
-    /// use lomvuze::{Item, Refusal, Sizes};
+    /// use lomvuze::{Item, PublicInputs, Refusal, Sizes, R};
     ///
     /// let sizes = Sizes { m: 2, n: 1, k: 2 };
-    /// let item = Item { e: 8, r: vec![5, 6], x: vec![34], root: [7; 32] };
+    /// let item = Item::new(R::from([5, 6]), PublicInputs::from([34]), [7; 32]);
     /// assert_eq!(Item::from_bytes(sizes, &item.to_bytes()), Ok(item.clone()));
     /// assert_eq!(Item::from_bytes(Sizes { m: 1, ..sizes }, &item.to_bytes()), Err(Refusal::Sizes));
     /// ```
@@ -98,7 +94,7 @@ impl Item {
         let numbers = numbers_from_bytes(numbers)?;
         let (e, r_x) = numbers.split_first().ok_or(Refusal::Sizes)?;
         let (r, x) = r_x.split_at_checked(sizes.m as usize).ok_or(Refusal::Sizes)?;
-        Ok(Item { e: *e, r: r.to_vec(), x: x.to_vec(), root: *root })
+        Ok(Item { e: *e, r: r.into(), x: x.into(), root: *root })
     }
 }
 
@@ -115,11 +111,12 @@ impl Opening {
     /// [`Refusal::Sizes`] where there are not 4 bytes and whole digests.
     ///
     /// ```
-    /// use lomvuze::{open, Opening, Refusal};
+    /// use lomvuze::{Opening, Refusal};
     ///
-    /// let opening = &open(2, &[2, 3], &[7])?[0];
-    /// assert_eq!(Opening::from_bytes(&opening.to_bytes()).as_ref(), Ok(opening));
-    /// # Ok::<(), Refusal>(())
+    /// let opening = Opening { value: 258, path: vec![[7; 32]; 3] };
+    /// assert_eq!(opening.to_bytes()[..5], [2, 1, 0, 0, 7]);
+    /// assert_eq!(Opening::from_bytes(&opening.to_bytes()), Ok(opening));
+    /// assert_eq!(Opening::from_bytes(&[2, 1, 0, 0, 7]), Err(Refusal::Sizes));
     /// ```
     pub fn from_bytes(bytes: &[u8]) -> Result<Opening, Refusal> {
         let (value, path) = bytes.split_first_chunk().ok_or(Refusal::Sizes)?;
@@ -128,53 +125,18 @@ impl Opening {
     }
 }
 
-// ---- The buffers that the library is passed
+impl TryFrom<&[u8]> for Entry {
+    type Error = Refusal;
 
-// A list of numbers or entries is passed as it is, up to one more than check 2 permits. A list of parts that
-// have a length themselves is passed as an empty buffer where one has another length: its bytes would be those
-// of other parts. No call permits an empty buffer there.
-
-/// r, x, one witness, positions or a quotient.
-pub(crate) fn numbers_buffer(numbers: &[u32]) -> Vec<u8> {
-    numbers_to_bytes(up_to(numbers, MOST_NUMBERS + 1))
-}
-
-/// One of a circuit's lists.
-pub(crate) fn entries_buffer(entries: &[Entry]) -> Vec<u8> {
-    up_to(entries, MAX_ENTRIES + 1).iter().flat_map(Entry::to_bytes).collect()
-}
-
-pub(crate) fn items_buffer(sizes: Sizes, items: &[Item]) -> Vec<u8> {
-    let items = up_to(items, MAX_L + 1);
-    let fits = |item: &Item| item.r.len() == sizes.m as usize && item.x.len() == sizes.n as usize;
-    if !sizes.are_within_limits() || !items.iter().all(fits) {
-        return vec![];
+    fn try_from(bytes: &[u8]) -> Result<Entry, Refusal> {
+        Entry::from_bytes(bytes)
     }
-    items.iter().flat_map(Item::to_bytes).collect()
 }
 
-pub(crate) fn witnesses_buffer(sizes: Sizes, witnesses: &[impl AsRef<[u32]>]) -> Vec<u8> {
-    let witnesses: Vec<&[u32]> = up_to(witnesses, MAX_L + 1).iter().map(AsRef::as_ref).collect();
-    let fits = |witness: &&[u32]| witness.len() == sizes.k as usize;
-    if !sizes.are_within_limits() || !witnesses.iter().all(fits) {
-        return vec![];
+impl TryFrom<&[u8]> for Opening {
+    type Error = Refusal;
+
+    fn try_from(bytes: &[u8]) -> Result<Opening, Refusal> {
+        Opening::from_bytes(bytes)
     }
-    numbers_to_bytes(&witnesses.concat())
-}
-
-/// The openings of each item and of the new one at t positions: position by position and, within one, item by
-/// item.
-pub(crate) fn openings_buffer(sizes: Sizes, t: usize, openings: &[impl AsRef<[Opening]>]) -> Vec<u8> {
-    let openings: Vec<&[Opening]> = up_to(openings, MAX_L + 2).iter().map(AsRef::as_ref).collect();
-    let fits = |opening: &Opening| opening.path.len() == sizes.depth();
-    let all_fit = |of_one: &&[Opening]| of_one.len() == t && of_one.iter().all(fits);
-    if !sizes.are_within_limits() || t > MOST_NUMBERS || !openings.iter().all(all_fit) {
-        return vec![];
-    }
-    (0..t).flat_map(|q| openings.iter().flat_map(move |of_one| of_one[q].to_bytes())).collect()
-}
-
-/// The first of a list.
-fn up_to<T>(list: &[T], count: usize) -> &[T] {
-    &list[..list.len().min(count)]
 }

@@ -1,3 +1,9 @@
+// On the page of the crate these stand for the paths of README.md: of a name that is defined twice, the first one
+// counts.
+//! [examples/fold_two.rs]: examples::fold_two
+//! [examples/fold_sheet.rs]: examples::fold_sheet
+//! [docs/SHEETS.md]: read_sheet
+//!
 #![doc = include_str!("../README.md")]
 //!
 //! ## The calls
@@ -5,17 +11,44 @@
 //! In the order of use:
 //!
 //! - [`cast`]: an item from a circuit, public inputs and a witness
-//! - [`fold`]: quotient, new item and new witness from up to 8 items and their witnesses
+//! - [`quotient`]: the quotient of up to 8 items and their witnesses, before a challenge is picked
+//! - [`fold`]: quotient, new item and new witness for a challenge
 //! - [`open`]: the openings of one witness: to be called for each item's witness and for the new one, with
 //!   the same positions
 //! - [`verify`]: tests a fold, without circuit or witness
 //! - [`decide`]: tests one item, such as the last new one, with its circuit and witness
 //!
-//! And [`encode`], the codeword and root of a witness, [`quotient`], the quotient alone, and [`read_sheet`],
-//! sizes, circuit, items and witnesses from a sheet of text.
+//! And [`encode`], the codeword and root of a witness, [`interleave`], the openings in the order of a verifier in C,
+//! and [`read_sheet`], sizes, circuit, items and witnesses from a sheet of text.
 //!
 //! A call returns the [`Refusal`] of the first of its checks that fails. Each check covers the whole input
 //! before the next one runs.
+//!
+//! ## What the caller sees to
+//!
+//! The calls are about items. That a verdict on items is one about a ledger takes things that no call can test:
+//!
+//! - A fresh item has e = 0 ([`Item::is_fresh`]). Any other e is that of a fold which the caller verified.
+//! - r is picked after x and root are fixed, the challenge after items and quotient, the positions after items,
+//!   quotient and new item; none by who hands these in. At least k positions differ
+//!   ([`Positions::count_different`]).
+//! - [`verify`] and [`decide`] get the same sizes and the same new item, [`decide`] the circuit that was agreed on, and
+//!   both accept.
+//! - A verdict covers the items of its fold and no others. More than 8 take several folds: [`examples::fold_sheet`]
+//!   says which are covered.
+//! - Where a new item is folded again, the verdict on the upper fold is about that item. It reaches the items of the
+//!   lower fold only if that was verified with the very item that is folded above.
+//!
+//! ## Types
+//!
+//! Lists of numbers have a type each: [`R`], [`PublicInputs`], [`Witness`], [`Quotient`], [`Positions`]. They are made
+//! from arrays, slices and vectors, and read as slices; none is taken for another:
+//!
+//! ```compile_fail
+//! use lomvuze::{encode, Positions};
+//!
+//! let _ = encode(2, &Positions::from([2, 3])); // positions are no witness
+//! ```
 //!
 //! ## Sizes
 //!
@@ -40,14 +73,27 @@
 #![forbid(unsafe_code)]
 #![deny(missing_docs)]
 
+mod buffers;
 mod calls;
 mod layout;
+mod lists;
 mod refusal;
 mod sizes;
 mod values;
 
-pub use calls::{cast, decide, encode, fold, open, quotient, read_sheet, verify};
+pub use calls::{cast, decide, encode, fold, interleave, open, quotient, read_sheet, verify};
 pub use layout::{numbers_from_bytes, numbers_to_bytes};
-pub use refusal::Refusal;
+pub use lists::{Challenge, Positions, PublicInputs, Quotient, Witness, R};
+pub use refusal::{NoCheck, Refusal};
 pub use sizes::{Sizes, MAX_ENTRIES, MAX_K, MAX_L, MAX_M, MAX_N, MAX_PAIRS, MAX_SHEET, P};
 pub use values::{Circuit, Digest, Encoded, Entry, Folded, Item, Opening, Sheet};
+
+/// The programs of the folder `examples`: they are on this page only.
+#[cfg(all(doc, not(doctest)))]
+pub mod examples {
+    #[doc = concat!("```\n", include_str!("../examples/fold_two.rs"), "```")]
+    pub mod fold_two {}
+
+    #[doc = concat!("```\n", include_str!("../examples/fold_sheet.rs"), "```")]
+    pub mod fold_sheet {}
+}

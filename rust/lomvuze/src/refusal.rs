@@ -3,19 +3,24 @@
 use std::error::Error;
 use std::fmt;
 
-/// The first check of a call that fails.
+/// The first check of a call that fails. Later versions may have more checks; the numbers of these stay.
 ///
 /// ```
-/// use lomvuze::{encode, Refusal, P};
+/// use lomvuze::{encode, Refusal, Witness, P};
 ///
-/// assert!(encode(2, &[2, P - 1]).is_ok());
+/// assert!(encode(2, &Witness::from([2, P - 1])).is_ok());
 ///
-/// let refusal = encode(2, &[2, P]).unwrap_err();
+/// let refusal = encode(2, &Witness::from([2, P])).unwrap_err();
 /// assert_eq!(refusal, Refusal::Element);
 /// assert_eq!(refusal.number(), 3);
 /// assert_eq!(refusal.to_string(), "an element is p or more");
+///
+/// // From the answer of a call in C, or from what `claims` prints.
+/// assert_eq!(Refusal::try_from(3), Ok(Refusal::Element));
+/// assert_eq!(Refusal::try_from(0).unwrap_err().to_string(), "no check has the number 0");
 /// ```
-#[derive(Clone, Copy, PartialEq, Eq, Debug)]
+#[derive(Clone, Copy, PartialEq, Eq, PartialOrd, Ord, Hash, Debug)]
+#[non_exhaustive]
 pub enum Refusal {
     /// A sheet has over 60,000 bytes or breaks the line rules.
     Sheet = 1,
@@ -54,7 +59,7 @@ pub enum Refusal {
 
 impl Refusal {
     /// All checks, in order.
-    pub const ALL: [Refusal; 11] = [
+    pub const ALL: &'static [Refusal] = &[
         Refusal::Sheet,
         Refusal::Sizes,
         Refusal::Element,
@@ -68,8 +73,8 @@ impl Refusal {
         Refusal::Claim,
     ];
 
-    /// The number of the check, 1 to 11: what the call returns in C (`enum lomvuze_answer`).
-    pub fn number(self) -> u32 {
+    /// The number of the check: what the call returns in C (`enum lomvuze_answer`).
+    pub const fn number(self) -> u32 {
         self as u32
     }
 }
@@ -94,11 +99,37 @@ impl fmt::Display for Refusal {
 
 impl Error for Refusal {}
 
+impl From<Refusal> for u32 {
+    fn from(refusal: Refusal) -> u32 {
+        refusal.number()
+    }
+}
+
+impl TryFrom<u32> for Refusal {
+    type Error = NoCheck;
+
+    fn try_from(number: u32) -> Result<Refusal, NoCheck> {
+        let refusal = Refusal::ALL.iter().find(|refusal| refusal.number() == number);
+        refusal.copied().ok_or(NoCheck(number))
+    }
+}
+
+/// A number that no check has. 0 is one: it says that a call accepted.
+#[derive(Clone, Copy, PartialEq, Eq, Hash, Debug)]
+pub struct NoCheck(u32);
+
+impl fmt::Display for NoCheck {
+    fn fmt(&self, out: &mut fmt::Formatter) -> fmt::Result {
+        write!(out, "no check has the number {}", self.0)
+    }
+}
+
+impl Error for NoCheck {}
+
 /// What the answer of a call says. The library answers 0 or the number of a check.
 pub(crate) fn accepted(answer: u32) -> Result<(), Refusal> {
-    if answer == 0 {
-        return Ok(());
+    match answer {
+        0 => Ok(()),
+        _ => Err(Refusal::try_from(answer).expect("an answer of the library")),
     }
-    let refusal = Refusal::ALL.into_iter().find(|refusal| refusal.number() == answer);
-    Err(refusal.unwrap_or_else(|| unreachable!("the library answered {answer}")))
 }

@@ -36,7 +36,7 @@ pub(crate) const MOST_NUMBERS: usize = 4 * MAX_K as usize;
 /// let sizes = Sizes { m: 2, n: 4, k: 8 };
 /// assert_eq!((sizes.depth(), sizes.item_bytes(), sizes.quotient_bytes(8)), (5, 60, 84));
 /// ```
-#[derive(Clone, Copy, PartialEq, Eq, Debug)]
+#[derive(Clone, Copy, PartialEq, Eq, Hash, Debug)]
 pub struct Sizes {
     /// A circuit has 2^m rows, and an item has m elements r.
     pub m: u32,

@@ -1,12 +1,12 @@
-//! What the calls take and return.
+//! What the calls take and return, apart from lists of numbers.
 
-use crate::Sizes;
+use crate::{PublicInputs, Quotient, Sizes, Witness, R};
 
 /// A SHA-256 digest.
 pub type Digest = [u8; 32];
 
-/// A value at a place of one of a circuit's lists.
-#[derive(Clone, Copy, PartialEq, Eq, Debug)]
+/// A value at a place of one of a circuit's lists. Entries are ordered as a list has them.
+#[derive(Clone, Copy, PartialEq, Eq, PartialOrd, Ord, Hash, Debug)]
 pub struct Entry {
     /// Below 2^m.
     pub row: u32,
@@ -16,11 +16,18 @@ pub struct Entry {
     pub value: u32,
 }
 
+impl From<(u32, u32, u32)> for Entry {
+    /// From row, column and value.
+    fn from((row, column, value): (u32, u32, u32)) -> Entry {
+        Entry { row, column, value }
+    }
+}
+
 /// A circuit: with z = x followed by the witness, row j holds when (Az)_j × (Bz)_j = (Cz)_j.
 ///
 /// Each list has up to [`MAX_ENTRIES`](crate::MAX_ENTRIES) entries, strictly ascending by row and then
 /// column.
-#[derive(Clone, PartialEq, Eq, Debug)]
+#[derive(Clone, PartialEq, Eq, Hash, Debug, Default)]
 pub struct Circuit {
     /// The list A.
     pub a: Vec<Entry>,
@@ -30,23 +37,82 @@ pub struct Circuit {
     pub c: Vec<Entry>,
 }
 
+impl Circuit {
+    /// From entries, which may be given as (row, column, value).
+    ///
+    /// ```
+    /// use lomvuze::{Circuit, Entry};
+    ///
+    /// // Two rows: w0 × w1 = x0 and (w0 + w1) × w1 = x1. The columns are x0, x1, w0 and w1.
+    /// let circuit = Circuit::new(
+    ///     [(0, 2, 1), (1, 2, 1), (1, 3, 1)],
+    ///     [(0, 3, 1), (1, 3, 1)],
+    ///     [(0, 0, 1), (1, 1, 1)],
+    /// );
+    /// assert_eq!(circuit.a[2], Entry { row: 1, column: 3, value: 1 });
+    /// assert!(circuit.a.is_sorted());
+    /// ```
+    pub fn new<E: Into<Entry>>(
+        a: impl IntoIterator<Item = E>,
+        b: impl IntoIterator<Item = E>,
+        c: impl IntoIterator<Item = E>,
+    ) -> Circuit {
+        Circuit { a: entries(a), b: entries(b), c: entries(c) }
+    }
+}
+
+fn entries(list: impl IntoIterator<Item = impl Into<Entry>>) -> Vec<Entry> {
+    list.into_iter().map(Into::into).collect()
+}
+
 /// A claim about a witness. Its value is the sum over the rows j of weight_j × ((Az)_j × (Bz)_j − (Cz)_j),
 /// where weight_j is the product over the bits b of j, 0 to m − 1, of r_b where the bit is 1 and of 1 − r_b
 /// where it is 0. It holds when its value is e. It matches when its root is that of the witness's codeword.
-#[derive(Clone, PartialEq, Eq, Debug)]
+#[derive(Clone, PartialEq, Eq, Hash, Debug)]
+#[non_exhaustive]
 pub struct Item {
     /// The value that is claimed.
     pub e: u32,
     /// m elements, which give the weights of the rows.
-    pub r: Vec<u32>,
+    pub r: R,
     /// The public inputs: n elements.
-    pub x: Vec<u32>,
+    pub x: PublicInputs,
     /// The root of the tree over the witness's codeword.
     pub root: Digest,
 }
 
+impl Item {
+    /// A fresh item: its e is 0.
+    pub fn new(r: R, x: PublicInputs, root: Digest) -> Item {
+        Item { e: 0, r, x, root }
+    }
+
+    /// Whether e is 0. It is in an item that [`cast`](crate::cast) gave. With any other e, an item that holds is no
+    /// statement that the rows hold: it is the result of a fold, or somebody has made it up.
+    ///
+    /// ```
+    /// use lomvuze::{decide, encode, Circuit, Item, PublicInputs, Refusal, Sizes, Witness, P, R};
+    ///
+    /// fn main() -> Result<(), Refusal> {
+    ///     // One row: w0 × w1 = x0. And 4 × 5 = 21, which no row says, with the e that makes it hold.
+    ///     let sizes = Sizes { m: 0, n: 1, k: 2 };
+    ///     let circuit = Circuit::new([(0, 1, 1)], [(0, 2, 1)], [(0, 0, 1)]);
+    ///     let witness = Witness::from([4, 5]);
+    ///     let mut item = Item::new(R::default(), PublicInputs::from([21]), encode(2, &witness)?.root);
+    ///     item.e = P - 1;
+    ///     decide(sizes, &circuit, &item, &witness)?;
+    ///     assert!(!item.is_fresh());
+    ///     Ok(())
+    /// }
+    /// ```
+    pub fn is_fresh(&self) -> bool {
+        self.e == 0
+    }
+}
+
 /// A codeword and its root, from [`encode`](crate::encode).
-#[derive(Clone, PartialEq, Eq, Debug)]
+#[derive(Clone, PartialEq, Eq, Hash, Debug)]
+#[non_exhaustive]
 pub struct Encoded {
     /// 4k elements.
     pub code: Vec<u32>,
@@ -55,18 +121,20 @@ pub struct Encoded {
 }
 
 /// A fold, from [`fold`](crate::fold).
-#[derive(Clone, PartialEq, Eq, Debug)]
+#[derive(Clone, PartialEq, Eq, Hash, Debug)]
+#[non_exhaustive]
 pub struct Folded {
-    /// (l − 1) × (m + 1) elements, the coefficient of X^0 first.
-    pub quotient: Vec<u32>,
+    /// The quotient of the items.
+    pub quotient: Quotient,
     /// The new item.
     pub item: Item,
     /// Its witness.
-    pub witness: Vec<u32>,
+    pub witness: Witness,
 }
 
 /// What a sheet says, from [`read_sheet`](crate::read_sheet).
-#[derive(Clone, PartialEq, Eq, Debug)]
+#[derive(Clone, PartialEq, Eq, Hash, Debug)]
+#[non_exhaustive]
 pub struct Sheet {
     /// The sizes of circuit, items and witnesses.
     pub sizes: Sizes,
@@ -75,11 +143,11 @@ pub struct Sheet {
     /// 1 to [`MAX_PAIRS`](crate::MAX_PAIRS) items. A fold takes up to [`MAX_L`](crate::MAX_L).
     pub items: Vec<Item>,
     /// Their witnesses, each at the place of its item.
-    pub witnesses: Vec<Vec<u32>>,
+    pub witnesses: Vec<Witness>,
 }
 
 /// The value of a codeword at a position, and the way from there to the root.
-#[derive(Clone, PartialEq, Eq, Debug)]
+#[derive(Clone, PartialEq, Eq, Hash, Debug)]
 pub struct Opening {
     /// The value.
     pub value: u32,

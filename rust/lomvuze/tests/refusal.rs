@@ -1,11 +1,11 @@
-//! Refusals say what the C header and its examples say of the same answers.
+//! Refusals say what the C header and `lomvuze_strerror` say of the same answers.
 
 use lomvuze::Refusal;
 use std::collections::BTreeMap;
 use std::error::Error;
 
 const HEADER: &str = include_str!("../../../include/lomvuze.h");
-const EXAMPLES: &str = include_str!("../../../examples/c/batch.h");
+const SENTENCES: &str = include_str!("../../../c/lomvuze.c");
 const REFUSALS: &str = include_str!("../src/refusal.rs");
 
 fn between<'a>(text: &'a str, start: &str, end: &str) -> &'a str {
@@ -31,17 +31,23 @@ fn answers() -> Vec<(&'static str, u32, String)> {
 
 #[test]
 fn numbers() {
-    assert_eq!(Refusal::ALL.map(Refusal::number), [1, 2, 3, 4, 5, 6, 7, 8, 9, 10, 11]);
     let of_header: Vec<u32> = answers().iter().map(|(_, number, _)| *number).collect();
-    assert_eq!(of_header, Refusal::ALL.map(Refusal::number));
+    let of_refusals: Vec<u32> = Refusal::ALL.iter().map(|refusal| refusal.number()).collect();
+    assert_eq!(of_refusals, (1..=11).collect::<Vec<_>>());
+    assert_eq!(of_header, of_refusals);
+    for number in (0..20).chain([u32::MAX]) {
+        let refusal = Refusal::try_from(number);
+        assert_eq!(refusal.is_ok(), of_header.contains(&number));
+        assert_eq!(refusal.map_or(number, u32::from), number);
+    }
 }
 
-/// The sentences are those that the C examples print.
+/// The sentences are those of `lomvuze_strerror`.
 #[test]
 fn sentences() {
-    for (refusal, (name, ..)) in Refusal::ALL.into_iter().zip(answers()) {
-        let meaning = between(EXAMPLES, &format!("case {name}: return \""), "\";");
-        let error: Box<dyn Error> = refusal.into();
+    for (refusal, (name, ..)) in Refusal::ALL.iter().zip(answers()) {
+        let meaning = between(SENTENCES, &format!("case {name}: return \""), "\";");
+        let error: Box<dyn Error> = (*refusal).into();
         assert_eq!(error.to_string(), meaning);
     }
 }

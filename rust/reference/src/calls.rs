@@ -1,212 +1,16 @@
-//! The seven public calls: the scope paper's section "Checking order".
+//! The eight public calls: the scope paper's section "Checking order", and putting openings in the verifier's order.
 //!
 //! A call answers 0 or the number of the first check that fails, and a refusal writes nothing. Each check
-//! runs over all of a call's input before the next. In a buffer a number takes four bytes, lowest first; a
-//! circuit's entry is row, column and value; an item is e, r, x and root; an opening is its value and its
-//! sibling digests.
+//! runs over all of a call's input before the next.
 
-use crate::claims::{self, Circuit, Entry, Item};
+#![allow(clippy::too_many_arguments)]
+
+use crate::checks::*;
+use crate::claims::{self, Item};
 use crate::code;
-use crate::field::{Element, P, ZERO};
+use crate::field::{Element, ZERO};
 use crate::sha256::Digest;
 use crate::tree;
-use std::ops::RangeInclusive;
-
-/// The number of the check that fails.
-pub(crate) type Refusal = u32;
-
-/// Runs a call's checks and, if all pass, its writing.
-fn answer(call: impl FnOnce() -> Result<(), Refusal>) -> u32 {
-    match call() {
-        Ok(()) => 0,
-        Err(number) => number,
-    }
-}
-
-pub(crate) fn check(number: u32, passes: bool) -> Result<(), Refusal> {
-    if passes {
-        Ok(())
-    } else {
-        Err(number)
-    }
-}
-
-// ---- Check 2: sizes, counts and lengths.
-
-fn within(number: u32, range: RangeInclusive<usize>) -> Result<usize, Refusal> {
-    check(2, range.contains(&(number as usize)))?;
-    Ok(number as usize)
-}
-
-fn length(buffer: &[u8], expected: usize) -> Result<(), Refusal> {
-    check(2, buffer.len() == expected)
-}
-
-/// m is 0 to 6.
-pub(crate) fn size_m(m: u32) -> Result<usize, Refusal> {
-    within(m, 0..=6)
-}
-
-/// n is 1 to 64.
-pub(crate) fn size_n(n: u32) -> Result<usize, Refusal> {
-    within(n, 1..=64)
-}
-
-/// k is a power of two from 2 to 64.
-pub(crate) fn size_k(k: u32) -> Result<usize, Refusal> {
-    check(2, k.is_power_of_two())?;
-    within(k, 2..=64)
-}
-
-/// l is 1 to 8.
-fn size_l(l: u32) -> Result<usize, Refusal> {
-    within(l, 1..=8)
-}
-
-/// t is 1 to 4k.
-fn size_t(t: u32, k: usize) -> Result<usize, Refusal> {
-    within(t, 1..=4 * k)
-}
-
-pub(crate) const fn item_length(m: usize, n: usize) -> usize {
-    4 + 4 * m + 4 * n + 32
-}
-
-fn quotient_length(m: usize, l: usize) -> usize {
-    4 * claims::quotient_count(m, l)
-}
-
-/// A value and log2(4k) digests.
-fn opening_length(k: usize) -> usize {
-    4 + 32 * (4 * k).ilog2() as usize
-}
-
-/// The greatest count of entries in a list.
-pub(crate) const MOST_ENTRIES: usize = 1024;
-
-/// A list of entries of twelve bytes each.
-fn entry_count(list: &[u8]) -> Result<(), Refusal> {
-    check(2, list.len().is_multiple_of(12) && list.len() / 12 <= MOST_ENTRIES)
-}
-
-// ---- Check 3: elements.
-
-fn number(bytes: &[u8]) -> u32 {
-    u32::from_le_bytes(bytes.try_into().expect("four bytes"))
-}
-
-fn numbers(bytes: &[u8]) -> Vec<u32> {
-    bytes.chunks(4).map(number).collect()
-}
-
-pub(crate) fn element(number: u32) -> Result<Element, Refusal> {
-    Element::new(number).ok_or(3)
-}
-
-fn elements(bytes: &[u8]) -> Result<Vec<Element>, Refusal> {
-    numbers(bytes).into_iter().map(element).collect()
-}
-
-fn entries(bytes: &[u8]) -> Result<Vec<Entry>, Refusal> {
-    bytes
-        .chunks(12)
-        .map(|entry| {
-            Ok(Entry {
-                row: number(&entry[0..4]),
-                column: number(&entry[4..8]),
-                value: element(number(&entry[8..12]))?,
-            })
-        })
-        .collect()
-}
-
-fn circuit(a: &[u8], b: &[u8], c: &[u8]) -> Result<Circuit, Refusal> {
-    Ok(Circuit { a: entries(a)?, b: entries(b)?, c: entries(c)? })
-}
-
-fn item(bytes: &[u8], m: usize) -> Result<Item, Refusal> {
-    let (e_r_x, root) = bytes.split_at(bytes.len() - 32);
-    let e_r_x = elements(e_r_x)?;
-    Ok(Item {
-        e: e_r_x[0],
-        r: e_r_x[1..1 + m].to_vec(),
-        x: e_r_x[1 + m..].to_vec(),
-        root: root.try_into().expect("32 bytes"),
-    })
-}
-
-fn items(bytes: &[u8], m: usize, n: usize) -> Result<Vec<Item>, Refusal> {
-    bytes.chunks(item_length(m, n)).map(|bytes| item(bytes, m)).collect()
-}
-
-fn witnesses(bytes: &[u8], k: usize) -> Result<Vec<Vec<Element>>, Refusal> {
-    bytes.chunks(4 * k).map(elements).collect()
-}
-
-struct Opening {
-    value: Element,
-    path: Vec<Digest>,
-}
-
-fn opening(bytes: &[u8]) -> Result<Opening, Refusal> {
-    let (value, path) = bytes.split_at(4);
-    Ok(Opening {
-        value: element(number(value))?,
-        path: path.chunks(32).map(|digest| digest.try_into().expect("32 bytes")).collect(),
-    })
-}
-
-fn openings(bytes: &[u8], k: usize) -> Result<Vec<Opening>, Refusal> {
-    bytes.chunks(opening_length(k)).map(opening).collect()
-}
-
-// ---- Checks 4 to 6, 10 and 11.
-
-/// 4: every entry is inside rows and columns and in order.
-pub(crate) fn check_circuit(circuit: &Circuit, m: usize, n: usize, k: usize) -> Result<(), Refusal> {
-    check(4, circuit.is_in_order(1 << m, n + k))
-}
-
-/// 5: the challenge is not below l and below p.
-fn check_challenge(challenge: u32, l: usize) -> Result<Element, Refusal> {
-    check(5, l as u32 <= challenge && challenge < P)?;
-    Element::new(challenge).ok_or(5)
-}
-
-/// 6: every position is below 4k.
-fn check_positions(positions: &[u8], k: usize) -> Result<Vec<usize>, Refusal> {
-    let positions = numbers(positions);
-    check(6, positions.iter().all(|position| (*position as usize) < 4 * k))?;
-    Ok(positions.into_iter().map(|position| position as usize).collect())
-}
-
-/// 10: every item's root is that of its witness's codeword.
-fn check_roots(items: &[Item], witnesses: &[Vec<Element>]) -> Result<(), Refusal> {
-    check(10, items.iter().zip(witnesses).all(|(item, w)| claims::matches(item, w)))
-}
-
-/// 11: every item holds with its witness.
-fn check_claims(circuit: &Circuit, items: &[Item], witnesses: &[Vec<Element>]) -> Result<(), Refusal> {
-    check(11, items.iter().zip(witnesses).all(|(item, w)| claims::holds(circuit, item, w)))
-}
-
-// ---- Writing.
-
-pub(crate) fn element_bytes(elements: &[Element]) -> Vec<u8> {
-    elements.iter().flat_map(|element| element.number().to_le_bytes()).collect()
-}
-
-pub(crate) fn item_bytes(item: &Item) -> Vec<u8> {
-    [element_bytes(&[item.e]), element_bytes(&item.r), element_bytes(&item.x), item.root.to_vec()].concat()
-}
-
-fn opening_bytes(codeword: &[Element], position: usize) -> Vec<u8> {
-    let entries = code::entries(codeword);
-    let path = tree::path(position, &entries);
-    [entries[position].to_vec(), path.concat()].concat()
-}
-
-// ---- The calls.
 
 /// Writes the codeword of a witness and its root. Checks 2 and 3.
 pub fn encode(k: u32, w: &[u8], code_out: &mut [u8], root_out: &mut [u8]) -> u32 {
@@ -225,7 +29,6 @@ pub fn encode(k: u32, w: &[u8], code_out: &mut [u8], root_out: &mut [u8]) -> u32
 }
 
 /// Writes the item of an R1CS instance: r as lent, e = 0 and the root of the witness. Checks 2, 3, 4 and 11.
-#[allow(clippy::too_many_arguments)]
 pub fn cast(
     m: u32,
     n: u32,
@@ -240,9 +43,7 @@ pub fn cast(
 ) -> u32 {
     answer(|| {
         let (m, n, k) = (size_m(m)?, size_n(n)?, size_k(k)?);
-        entry_count(a)?;
-        entry_count(b)?;
-        entry_count(c)?;
+        entry_counts([a, b, c])?;
         length(r, 4 * m)?;
         length(x, 4 * n)?;
         length(w, 4 * k)?;
@@ -262,7 +63,6 @@ pub fn cast(
 }
 
 /// Writes the quotient of l items. Checks 2, 3, 4, 10 and 11.
-#[allow(clippy::too_many_arguments)]
 pub fn quotient(
     m: u32,
     n: u32,
@@ -277,9 +77,7 @@ pub fn quotient(
 ) -> u32 {
     answer(|| {
         let (m, n, k, l) = (size_m(m)?, size_n(n)?, size_k(k)?, size_l(l)?);
-        entry_count(a)?;
-        entry_count(b)?;
-        entry_count(c)?;
+        entry_counts([a, b, c])?;
         length(items_in, l * item_length(m, n))?;
         length(witnesses_in, l * 4 * k)?;
         length(quotient_out, quotient_length(m, l))?;
@@ -300,7 +98,6 @@ pub fn quotient(
 
 /// Writes the quotient of l items, and the new item and witness for a challenge. Checks 2, 3, 4, 5, 10 and
 /// 11.
-#[allow(clippy::too_many_arguments)]
 pub fn fold(
     m: u32,
     n: u32,
@@ -318,9 +115,7 @@ pub fn fold(
 ) -> u32 {
     answer(|| {
         let (m, n, k, l) = (size_m(m)?, size_n(n)?, size_k(k)?, size_l(l)?);
-        entry_count(a)?;
-        entry_count(b)?;
-        entry_count(c)?;
+        entry_counts([a, b, c])?;
         length(items_in, l * item_length(m, n))?;
         length(witnesses_in, l * 4 * k)?;
         length(quotient_out, quotient_length(m, l))?;
@@ -356,18 +151,36 @@ pub fn open(k: u32, t: u32, w: &[u8], positions: &[u8], openings_out: &mut [u8])
         length(openings_out, t * opening_length(k))?;
 
         let w = elements(w)?;
-
         let positions = check_positions(positions, k)?;
 
         let codeword = code::codeword(&w);
-        let openings: Vec<_> = positions.iter().map(|position| opening_bytes(&codeword, *position)).collect();
-        openings_out.copy_from_slice(&openings.concat());
+        let openings = positions.iter().flat_map(|position| opening_bytes(&codeword, *position));
+        openings_out.copy_from_slice(&openings.collect::<Vec<u8>>());
+        Ok(())
+    })
+}
+
+/// Writes the openings of l items and the new one, which stand one witness after the other, the new one last, in
+/// the order in which verifying takes them: position by position and, within one, item by item. Check 2.
+pub fn interleave(k: u32, l: u32, t: u32, opened: &[u8], openings_out: &mut [u8]) -> u32 {
+    answer(|| {
+        let (k, l) = (size_k(k)?, size_l(l)?);
+        let t = size_t(t, k)?;
+        length(opened, (l + 1) * t * opening_length(k))?;
+        length(openings_out, t * (l + 1) * opening_length(k))?;
+        let openings: Vec<&[u8]> = opened.chunks(opening_length(k)).collect();
+        let mut written = vec![];
+        for position in 0..t {
+            for item in 0..l + 1 {
+                written.extend(openings[item * t + position]);
+            }
+        }
+        openings_out.copy_from_slice(&written);
         Ok(())
     })
 }
 
 /// Verifies a fold of l items at t positions. Checks 2, 3 and 5 to 9.
-#[allow(clippy::too_many_arguments)]
 pub fn verify(
     m: u32,
     n: u32,
@@ -418,13 +231,10 @@ pub fn verify(
 }
 
 /// Decides an item with its witness. Checks 2, 3, 4, 10 and 11.
-#[allow(clippy::too_many_arguments)]
 pub fn decide(m: u32, n: u32, k: u32, a: &[u8], b: &[u8], c: &[u8], item_in: &[u8], witness: &[u8]) -> u32 {
     answer(|| {
         let (m, n, k) = (size_m(m)?, size_n(n)?, size_k(k)?);
-        entry_count(a)?;
-        entry_count(b)?;
-        entry_count(c)?;
+        entry_counts([a, b, c])?;
         length(item_in, item_length(m, n))?;
         length(witness, 4 * k)?;
 

@@ -8,10 +8,11 @@
 //! - [`code`] — the points and the codeword of a witness
 //! - [`polynomial`] — polynomials over the field
 //! - [`claims`] — circuits, items, their value, the quotient and the fold
-//! - [`calls`] — the seven public calls over byte buffers, with their checks in order
+//! - [`calls`] — the eight public calls over byte buffers, with their checks in order
 //! - [`sheet`] — the reader of sheets and the listing of their claims
 
 pub mod calls;
+mod checks;
 pub mod claims;
 pub mod code;
 pub mod field;

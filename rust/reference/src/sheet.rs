@@ -3,7 +3,7 @@
 //! A sheet is split into lines and the lines into fields, and what they say is collected, before any size is
 //! looked at.
 
-use crate::calls::{
+use crate::checks::{
     check, check_circuit, element, element_bytes, item_bytes, item_length, size_k, size_m, size_n, Refusal,
     MOST_ENTRIES,
 };

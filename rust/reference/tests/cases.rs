@@ -92,6 +92,7 @@ fn c10_one_item() {
     let (items, witnesses) = ([item], [w]);
     assert_eq!(claims::quotient(&circuit(), &items, &witnesses).unwrap(), []);
     assert_eq!(fold(&items, &witnesses, &[], 1), (vec![6], vec![2, 3], 0));
+    assert_eq!(code::root(&claims::fold_witness(&witnesses, element(1))), items[0].root);
 }
 
 /// The 256 points for k = 64: the first is 1, each is the one before times one root, and a smaller k takes

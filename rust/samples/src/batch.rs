@@ -1,12 +1,14 @@
-//! The data of the C examples: eight statements that a ledger's move balances, and their fold into one.
+//! The data of the examples: statements that a ledger's move balances. Eight of them, and their fold into one, for
+//! those in C; a sheet of twenty for that in Rust.
 //!
 //! Public inputs: 1, the total of two holdings, the payment, the price of a unit. Witness: both holdings
 //! before the move, both after it, the units moved, and three random numbers that the circuit does not use.
 //! Rows: the holdings before have the total; so have those after; the first holding goes down by the units;
 //! units × price = payment.
 
-use crate::{bytes, Chain, Honest, Random, REFERENCE};
+use crate::{bytes, number_at, Chain, Honest, Random, REFERENCE};
 use lomvuze_reference::field::P;
+use lomvuze_reference::sheet::{self, Pair, Sheet};
 
 const M: u32 = 2;
 const N: u32 = 4;
@@ -30,7 +32,7 @@ struct Plan {
 
 fn plan() -> Plan {
     let mut random = Random::new(1);
-    let list = statements(&mut random);
+    let list = statements(&mut random, L);
     let challenge = L + random.below((P - L) as usize) as u32;
     let positions = (0..16).map(|_| random.below(4 * K as usize) as u32).collect();
     Plan { list, challenge, positions }
@@ -68,7 +70,28 @@ pub fn folded() -> Vec<u8> {
     .concat()
 }
 
-fn statements(random: &mut Random) -> Honest {
+/// `twenty.sheet`.
+pub fn twenty() -> Vec<u8> {
+    let list = statements(&mut Random::new(2), 20);
+    let numbers = |bytes: &[u8]| bytes.chunks(4).map(|number| number_at(number, 0)).collect::<Vec<u32>>();
+    let entries = |list: &[u8]| list.chunks(12).map(|entry| numbers(entry).try_into().unwrap()).collect();
+    let pair = |(item, witness): (&[u8], &[u8])| {
+        let (e_r_x, root) = item.split_last_chunk().unwrap();
+        Pair { numbers: numbers(e_r_x), root: *root, witness: numbers(witness) }
+    };
+    let (items, witnesses) =
+        (list.items.chunks(list.item_length()), list.witnesses.chunks(list.witness_length()));
+    sheet::write(&Sheet {
+        size: [M, N, K],
+        a: entries(&list.a),
+        b: entries(&list.b),
+        c: entries(&list.c),
+        pairs: items.zip(witnesses).map(pair).collect(),
+        end: list.l,
+    })
+}
+
+fn statements(random: &mut Random, count: u32) -> Honest {
     let a = [
         [0, BEFORE[0], 1],
         [0, BEFORE[1], 1],
@@ -82,7 +105,7 @@ fn statements(random: &mut Random) -> Honest {
     let c = [[0, TOTAL, 1], [1, TOTAL, 1], [2, AFTER[0], 1], [3, PAYMENT, 1]];
     let (a, b, c) = (bytes(&a.concat()), bytes(&b.concat()), bytes(&c.concat()));
     let (mut items, mut witnesses) = (vec![], vec![]);
-    for _ in 0..L {
+    for _ in 0..count {
         let mut number = |least: u32, below: u32| least + random.below((below - least) as usize) as u32;
         let before = [number(1000, 100_000), number(1000, 100_000)];
         let (units, price) = (number(1, 1000), number(1, 10_000));
@@ -95,5 +118,5 @@ fn statements(random: &mut Random) -> Honest {
         items.extend(item);
         witnesses.extend(bytes(&w));
     }
-    Honest { m: M, n: N, k: K, l: L, a, b, c, items, witnesses }
+    Honest { m: M, n: N, k: K, l: count, a, b, c, items, witnesses }
 }

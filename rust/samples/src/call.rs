@@ -1,9 +1,8 @@
-//! Random calls of the seven: numbers, buffers that are read and buffers that are written.
+//! Random calls of the eight: numbers, buffers that are read and buffers that are written.
 
-use crate::honest::{element_bytes, list_bytes, random_list};
+use crate::instance::instance;
 use crate::{bytes, Chain, Honest, Library, Random, REFERENCE};
-use lomvuze_reference::claims::{self, Circuit, Entry};
-use lomvuze_reference::field::{Element, ONE, P, ZERO};
+use lomvuze_reference::field::P;
 
 #[derive(Clone, Copy, PartialEq, Eq, Hash, Debug)]
 pub enum Name {
@@ -12,12 +11,21 @@ pub enum Name {
     Quotient,
     Fold,
     Open,
+    Interleave,
     Verify,
     Decide,
 }
 
-pub const NAMES: [Name; 7] =
-    [Name::Encode, Name::Cast, Name::Quotient, Name::Fold, Name::Open, Name::Verify, Name::Decide];
+pub const NAMES: [Name; 8] = [
+    Name::Encode,
+    Name::Cast,
+    Name::Quotient,
+    Name::Fold,
+    Name::Open,
+    Name::Interleave,
+    Name::Verify,
+    Name::Decide,
+];
 
 /// What a buffer holds.
 #[derive(Clone, Copy, PartialEq, Eq, Debug)]
@@ -35,7 +43,9 @@ pub enum Part {
     Positions,
     /// Of one witness.
     Openings,
-    /// Of all items and the new one.
+    /// Of all items and the new one, witness by witness.
+    Opened,
+    /// Of all items and the new one, position by position.
     AllOpenings,
 }
 use Part::*;
@@ -49,6 +59,7 @@ impl Name {
             Name::Quotient => &[2, 3, 4, 10, 11],
             Name::Fold => &[2, 3, 4, 5, 10, 11],
             Name::Open => &[2, 3, 6],
+            Name::Interleave => &[2],
             Name::Verify => &[2, 3, 5, 6, 7, 8, 9],
             Name::Decide => &[2, 3, 4, 10, 11],
         }
@@ -62,6 +73,7 @@ impl Name {
             Name::Quotient => "mnkl",
             Name::Fold => "mnkla",
             Name::Open => "kt",
+            Name::Interleave => "klt",
             Name::Verify => "mnklta",
         }
     }
@@ -73,6 +85,7 @@ impl Name {
             Name::Cast => &[Entries, Entries, Entries, R, X, Witness],
             Name::Quotient | Name::Fold => &[Entries, Entries, Entries, Items, Witnesses],
             Name::Open => &[Witness, Positions],
+            Name::Interleave => &[Opened],
             Name::Verify => &[Items, Positions, Quotient, Item, AllOpenings],
             Name::Decide => &[Entries, Entries, Entries, Item, Witness],
         }
@@ -86,6 +99,7 @@ impl Name {
             Name::Quotient => &[Quotient],
             Name::Fold => &[Quotient, Item, Witness],
             Name::Open => &[Openings],
+            Name::Interleave => &[AllOpenings],
             Name::Verify | Name::Decide => &[],
         }
     }
@@ -121,6 +135,7 @@ impl Call {
                 )
             }
             Name::Open => (by.open)(n[0], n[1], &i[0], &i[1], &mut o[0]),
+            Name::Interleave => (by.interleave)(n[0], n[1], n[2], &i[0], &mut o[0]),
             Name::Verify => {
                 (by.verify)(n[0], n[1], n[2], n[3], n[4], n[5], &i[0], &i[1], &i[2], &i[3], &i[4])
             }
@@ -153,6 +168,11 @@ impl Call {
             Name::Quotient => (vec![m, n, k, l], [&circuit[..], &[list.items, list.witnesses]].concat()),
             Name::Fold => (vec![m, n, k, l, a], [&circuit[..], &[list.items, list.witnesses]].concat()),
             Name::Open => (vec![k, t as u32], vec![w, bytes(&positions)]),
+            // Any bytes of the right length are put in order.
+            Name::Interleave => {
+                let opened = random.bytes(t * (l as usize + 1) * list.opening_length());
+                (vec![k, l, t as u32], vec![opened])
+            }
             Name::Verify => {
                 let chain = Chain::new(&REFERENCE, &list, a, &positions);
                 let inputs =
@@ -203,7 +223,7 @@ impl Call {
             Quotient => 4 * l.saturating_sub(1) * (m + 1),
             Positions => 4 * t,
             Openings => t * self.opening_length(),
-            AllOpenings => t * (l + 1) * self.opening_length(),
+            Opened | AllOpenings => t * (l + 1) * self.opening_length(),
         })
     }
 
@@ -218,42 +238,8 @@ impl Call {
                 .flat_map(|at| (0..item_numbers).map(move |j| at + 4 * j))
                 .collect(),
             AllOpenings => (0..length).step_by(self.opening_length()).collect(),
-            Positions => vec![],
+            Positions | Opened => vec![],
             _ => (0..length).step_by(4).collect(),
         }
     }
-}
-
-/// A circuit with r, x and w whose rows all hold, with the sizes of an honest list and as many entries. In C,
-/// each row has in column 0 the one value that makes it hold.
-fn instance(random: &mut Random, list: &Honest) -> Vec<Vec<u8>> {
-    let (m, columns) = (list.m, list.n + list.k);
-    let (r, mut x, w) =
-        (random.elements(m as usize), random.elements(list.n as usize), random.elements(list.k as usize));
-    if x[0] == ZERO {
-        x[0] = ONE;
-    }
-    let others = (list.c.len() / 12).saturating_sub(1 << m);
-    let mut circuit = Circuit {
-        a: random_list(random, m, 0..columns, list.a.len() / 12),
-        b: random_list(random, m, 0..columns, list.b.len() / 12),
-        c: random_list(random, m, 1..columns, others),
-    };
-    let mut first = vec![];
-    for row in 0..1u32 << m {
-        // The value of the circuit at the corner of the cube that row stands for is the row's own residue.
-        let corner: Vec<Element> = (0..m).map(|b| if row >> b & 1 == 1 { ONE } else { ZERO }).collect();
-        let residue = claims::value(&circuit, &corner, &x, &w);
-        first.push(Entry { row, column: 0, value: residue * x[0].inverse() });
-    }
-    circuit.c.extend(first);
-    circuit.c.sort_by_key(|entry| (entry.row, entry.column));
-    vec![
-        list_bytes(&circuit.a),
-        list_bytes(&circuit.b),
-        list_bytes(&circuit.c),
-        element_bytes(&r),
-        element_bytes(&x),
-        element_bytes(&w),
-    ]
 }

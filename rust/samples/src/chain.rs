@@ -16,8 +16,7 @@ pub struct Chain {
 }
 
 impl Chain {
-    /// Folds and opens. Openings lie position by position and, within one, item by item,
-    /// the new item last.
+    /// Folds, opens each witness, and puts the openings in the verifier's order.
     pub fn new(by: &Library, list: &Honest, challenge: u32, positions: &[u32]) -> Chain {
         let (mut quotient, mut new_item, mut new_witness) =
             (vec![0; list.quotient_length()], vec![0; list.item_length()], vec![0; list.witness_length()]);
@@ -44,14 +43,10 @@ impl Chain {
         for w in list.witnesses.chunks(list.witness_length()).chain([&new_witness[..]]) {
             let mut openings = vec![0; t as usize * list.opening_length()];
             assert_eq!((by.open)(list.k, t, w, &positions, &mut openings), 0);
-            opened.push(openings);
+            opened.extend(openings);
         }
-        let mut openings = vec![];
-        for q in 0..t as usize {
-            for of_item in &opened {
-                openings.extend(&of_item[q * list.opening_length()..(q + 1) * list.opening_length()]);
-            }
-        }
+        let mut openings = vec![0; opened.len()];
+        assert_eq!((by.interleave)(list.k, list.l, t, &opened, &mut openings), 0);
         Chain { challenge, t, positions, quotient, new_item, new_witness, openings }
     }
 

@@ -20,37 +20,44 @@ pub fn write(folder: &Path, files: Vec<(PathBuf, Vec<u8>)>) -> std::io::Result<(
 /// The files of `fuzz/corpus`. A name starts with the answer: each call has one file at least for each of its
 /// answers.
 pub fn stored() -> Vec<(PathBuf, Vec<u8>)> {
-    let mut random = Random::new(1);
+    NAMES.into_iter().flat_map(stored_calls).chain(stored_sheets()).collect()
+}
+
+fn stored_calls(name: Name) -> Vec<(PathBuf, Vec<u8>)> {
+    let mut random = random_of(&folder(name));
     let mut files = vec![];
-    for name in NAMES {
-        let mut add = |what: &str, content| files.push((folder(name).join(what), content));
-        let greatest = Honest::with_entries(&mut random, 6, 64, 64, 8, [16, 16, 80]);
-        add("0-greatest", input(&Call::over(&mut random, name, greatest, 2)));
+    let mut add = |what: &str, content| files.push((folder(name).join(what), content));
+    let greatest = Honest::with_entries(&mut random, 6, 64, 64, 8, [16, 16, 80]);
+    add("0-greatest", input(&Call::over(&mut random, name, greatest, 2)));
 
-        let small = Honest::with_entries(&mut random, 1, 2, 4, 2, [3, 3, 3]);
-        let call = Call::over(&mut random, name, small, 2);
-        add("0-small", input(&call));
-        for check in name.checks().iter().filter(|check| **check != 2) {
-            let mut call = call.clone();
-            call.fail(&mut random, *check);
-            assert_eq!(call.clone().run(&REFERENCE), *check);
-            add(&check.to_string(), input(&call));
-        }
-
-        let mut longer = call.clone();
-        longer.inputs[0].push(0);
-        add("2-longer", input(&longer));
-        let mut shorter = call.clone();
-        shorter.inputs.iter_mut().chain(&mut shorter.outputs).last().unwrap().pop();
-        add("2-shorter", input(&shorter));
-        // A size of 2^30 more gives the same lengths modulo 2^32.
-        for (i, size) in name.numbers().char_indices().filter(|(_, letter)| *letter != 'a') {
-            let mut content = input(&call);
-            put(&mut content, 4 * i, call.numbers[i] + (1 << 30));
-            add(&format!("2-{size}"), content);
-        }
+    let small = Honest::with_entries(&mut random, 1, 2, 4, 2, [3, 3, 3]);
+    let call = Call::over(&mut random, name, small, 2);
+    add("0-small", input(&call));
+    for check in name.checks().iter().filter(|check| **check != 2) {
+        let mut call = call.clone();
+        call.fail(&mut random, *check);
+        assert_eq!(call.clone().run(&REFERENCE), *check);
+        add(&check.to_string(), input(&call));
     }
 
+    let mut longer = call.clone();
+    longer.inputs[0].push(0);
+    add("2-longer", input(&longer));
+    let mut shorter = call.clone();
+    shorter.inputs.iter_mut().chain(&mut shorter.outputs).last().unwrap().pop();
+    add("2-shorter", input(&shorter));
+    // A size of 2^30 more gives the same lengths modulo 2^32.
+    for (i, size) in name.numbers().char_indices().filter(|(_, letter)| *letter != 'a') {
+        let mut content = input(&call);
+        put(&mut content, 4 * i, call.numbers[i] + (1 << 30));
+        add(&format!("2-{size}"), content);
+    }
+    files
+}
+
+fn stored_sheets() -> Vec<(PathBuf, Vec<u8>)> {
+    let mut random = random_of(Path::new(SHEETS));
+    let mut files = vec![];
     let mut add = |what: &str, more: [isize; 5], text: &[u8]| {
         let lengths = std::array::from_fn(|i| Buffers::LENGTHS[i].wrapping_add_signed(more[i]));
         let answer = Buffers::new(lengths).read(sheet::read, text).answer;
@@ -107,6 +114,12 @@ pub fn honest(count: usize) -> Vec<(PathBuf, Vec<u8>)> {
 
 fn folder(name: Name) -> PathBuf {
     format!("{name:?}").to_lowercase().into()
+}
+
+/// Random numbers for one folder, which stay as they are when another folder is added.
+fn random_of(folder: &Path) -> Random {
+    let letters = folder.as_os_str().as_encoded_bytes();
+    Random::new(letters.iter().fold(0, |seed: u64, letter| seed.wrapping_mul(31) + *letter as u64))
 }
 
 const SHEETS: &str = "read_sheet";

@@ -9,6 +9,7 @@ pub mod comparison;
 pub mod corpus;
 pub mod damage;
 pub mod honest;
+mod instance;
 pub mod library;
 pub mod random;
 pub mod sheet;

@@ -1,4 +1,6 @@
-//! The seven calls of one implementation, so that two can run the same call.
+//! The eight calls of one implementation, so that two can run the same call.
+
+#![allow(clippy::type_complexity)]
 
 use lomvuze_reference::calls;
 
@@ -11,11 +13,12 @@ pub struct Library {
     pub quotient: fn(u32, u32, u32, u32, In, In, In, In, In, Out) -> u32,
     pub fold: fn(u32, u32, u32, u32, u32, In, In, In, In, In, Out, Out, Out) -> u32,
     pub open: fn(u32, u32, In, In, Out) -> u32,
+    pub interleave: fn(u32, u32, u32, In, Out) -> u32,
     pub verify: fn(u32, u32, u32, u32, u32, u32, In, In, In, In, In) -> u32,
     pub decide: fn(u32, u32, u32, In, In, In, In, In) -> u32,
 }
 
-/// The library of a module that has the seven calls.
+/// The library of a module that has the eight calls.
 #[macro_export]
 macro_rules! library {
     ($calls:ident) => {
@@ -25,6 +28,7 @@ macro_rules! library {
             quotient: $calls::quotient,
             fold: $calls::fold,
             open: $calls::open,
+            interleave: $calls::interleave,
             verify: $calls::verify,
             decide: $calls::decide,
         }

@@ -8,6 +8,7 @@ const A: [u32; 3] = [0, 1, 1];
 const B: [u32; 3] = [0, 2, 1];
 const C: [u32; 3] = [0, 0, 1];
 const ITEM: usize = 4 + 4 + 32;
+const OPENING: usize = 4 + 32 * 3;
 
 fn root(w: [u32; 2]) -> Vec<u8> {
     let (mut code, mut root) = (vec![0; 32], vec![0; 32]);
@@ -68,11 +69,37 @@ fn c5_to_c7() {
     assert_eq!(fold(3, &items), [bytes(&[4]), item(24, 48, [8, 9]), bytes(&[8, 9])]);
 }
 
-/// The second item does not hold. The quotient 3 passes at challenge 2 and at no other permitted one.
+/// The fold at a challenge that x, w and e combine to with quotient 3: the answers of verifying it, at all positions,
+/// and of deciding it. The items are (6; 2, 3) and (21; 4, 5), both with e 0, of which the second does not hold.
+fn verify_and_decide_c8(a: u32) -> (u32, u32) {
+    let number = |value: u64| (value % P as u64) as u32;
+    let a_64 = a as u64;
+    let (x, w) = (number(6 + 15 * a_64), [number(2 + 2 * a_64), number(3 + 2 * a_64)]);
+    let e = number(3 * (a_64 * (a_64 - 1) % P as u64));
+
+    let positions = bytes(&[0, 1, 2, 3, 4, 5, 6, 7]);
+    let mut opened = vec![0; 3 * 8 * OPENING];
+    for (out, w) in opened.chunks_mut(8 * OPENING).zip([[2, 3], [4, 5], w]) {
+        assert_eq!(calls::open(2, 8, &bytes(&w), &positions, out), 0);
+    }
+    let mut openings = vec![0; 3 * 8 * OPENING];
+    assert_eq!(calls::interleave(2, 2, 8, &opened, &mut openings), 0);
+    let items = [item(0, 6, [2, 3]), item(0, 21, [4, 5])].concat();
+    let new_item = item(e, x, w);
+    let verified = calls::verify(0, 1, 2, 2, 8, a, &items, &positions, &bytes(&[3]), &new_item, &openings);
+    (verified, decide(e, x, w))
+}
+
+/// Both calls accept at challenge 2, and deciding refuses at all others that are tried, the least and the greatest
+/// among them. (Value and e differ by a polynomial of degree 2 in the challenge, whose roots are 0 and 2.)
 #[test]
 fn c8() {
     assert_eq!((decide(6, 36, [6, 7]), decide(18, 51, [8, 9])), (0, 11));
     assert_eq!(decide(21, 51, [8, 9]), 0);
+    assert_eq!(verify_and_decide_c8(2), (0, 0));
+    for a in (3..1000).chain(P - 1000..P) {
+        assert_eq!(verify_and_decide_c8(a), (0, 11), "challenge {a}");
+    }
 }
 
 #[test]
@@ -82,7 +109,13 @@ fn c9() {
     assert_eq!((&code[..4], &code[16..20]), (&bytes(&[5])[..], &bytes(&[P - 1])[..]));
 }
 
+/// No coefficients, and the item back: e, x, root and witness.
 #[test]
 fn c10() {
-    assert_eq!(fold(1, &[(6, [2, 3])]), [vec![], item(0, 6, [2, 3]), bytes(&[2, 3])]);
+    let [quotient, new_item, witness] = fold(1, &[(6, [2, 3])]);
+    assert_eq!(quotient, []);
+    assert_eq!(new_item[..8], bytes(&[0, 6]));
+    assert_eq!(new_item[8..], root([2, 3]));
+    assert_eq!(new_item, cast(6, [2, 3]).1);
+    assert_eq!(witness, bytes(&[2, 3]));
 }

@@ -50,6 +50,11 @@ fn open() {
 }
 
 #[test]
+fn interleave() {
+    random_calls(Name::Interleave);
+}
+
+#[test]
 fn verify() {
     random_calls(Name::Verify);
 }

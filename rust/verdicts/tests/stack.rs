@@ -1,4 +1,5 @@
-//! The deepest stack of each call at the greatest sizes is within what `include/lomvuze.h` states. To see it:
+//! The stack that each call takes, where it is accepted, is within what `include/lomvuze.h` states: at the
+//! greatest sizes, and for the calls but the sheet reader at random sizes too. To see it:
 //! `cargo test --release --offline -p lomvuze-verdicts --test stack -- --nocapture`.
 //!
 //! A thread runs the call on a stack of our own that is painted before: the deepest word that has changed says
@@ -15,7 +16,7 @@ use std::ptr::null_mut;
 
 const PROVED: Library = library!(calls);
 
-/// No call may take more.
+/// No call, the sheet reader included, may state as much.
 const MOST: usize = 64 * 1024;
 
 // ---- POSIX threads, with the sizes of 64-bit Linux
@@ -89,14 +90,15 @@ fn stated(name: &str) -> usize {
 /// Runs a call that is accepted.
 fn measure(name: &str, work: &mut dyn FnMut() -> u32) -> usize {
     let (bytes, answer) = depth(work);
+    let stated = stated(name);
     assert_eq!(answer, 0, "{name}");
-    assert!(bytes <= stated(name), "{name} takes {bytes} bytes of stack");
+    assert!(bytes <= stated, "{name} takes {bytes} bytes of stack");
+    assert!(stated < MOST, "{name} states {stated} bytes of stack");
     bytes
 }
 
 fn test(name: Name, mut call: Call) -> usize {
     let named = format!("{name:?}").to_lowercase();
-    assert!(stated(&named) <= MOST, "{named}");
     measure(&named, &mut || call.run(&PROVED))
 }
 

@@ -2,15 +2,15 @@
 use mathlib.Core.Path.{_≡_, sym, _∙_}
 use mathlib.Core.Bool.{true}
 use borrow.Author.Tests.{not-true, not-false}
-use Rattle.chain.specs.Chained.{openedFits}
-use Rattle.chain.proofs.Lengths.{fitting, wits-size}
+use Rattle.theory.specs.Fp.{interleaveFits}
+use Rattle.chain.proofs.Lengths.{wits-size}
 use Rattle.chain.proofs.Chaining.{none-called, fold-refuses, open-refuses, all-called}
 use borrow.Author.Needs.{needs}
 use Rattle.chain.proofs.chain.Statement.{statement}
 use Rattle.chain.proofs.chain.Tie as tie
 
 -- The two buffers have their lengths.
-fit : (c : tie.Else1) → (let a = c .before .before .before .before .before .before .before .before .before .before .before .before .before .before .before .args in openedFits (a .k) (a .l) (a .t) (a .opened .now) (a .openings .now) ≡ true)
+fit : (c : tie.Else1) → (let a = c .before .before .before .before .before .before .before .before .before .before .before .before .before .before .before .args in interleaveFits (a .k) (a .l) (a .t) (a .opened .now) (a .openings .now) ≡ true)
 fit c = let test = c .before .fits2 in sym (test .ensures) ∙ not-false (test .result) (c .if1 .left)
 
 fits-requires : tie.Need-fits-requires
@@ -58,14 +58,10 @@ returns-2 c =
 show-requires : tie.Need-show-requires
 show-requires c κs =
     let a = c .before .before .before .before .before .before .before .before .before .before .before .before .before .before .before .before .before .before .before .before .before .before .before .before .before .before .before .before .before .args in
-    let fold = c .before .before .before .before .before .before .before .before .before .before .lomvuze-fold in
-    let h = fitting (a .k) (a .l) (a .t) (a .opened .now) (a .openings .now) (fit (c .before .before .before .before .before .before .before .before .before .before .before .before .before .before)) in (
-      h .witnesses,
-      h .few,
+    let fold = c .before .before .before .before .before .before .before .before .before .before .lomvuze-fold in (
       wits-size (a .m) (a .n) (a .k) (a .l) (a .challenge) (a .a .now) (a .b .now) (a .c .now) (a .items .now) (a .wits .now) (a .quotient .now) (a .item .now) (a .wit .now)
           (sym (fold .ensures .0) ∙ c .before .before .before .if2 .left),
-      h .opened-size,
-      h .openings-size,
+      fit (c .before .before .before .before .before .before .before .before .before .before .before .before .before .before),
     )
 
 same-length-8 : tie.Need-same-length-8

@@ -1,35 +1,32 @@
 -- `chain::show` meets its contract.
-use mathlib.Core.Path.{_≡_, refl, sym, ap, _∙_}
-use Prim.Native.Nat.{ℕ, suc, _*_, _≤_}
+use mathlib.Core.Path.{refl, sym, ap, _∙_}
+use Prim.Native.Nat.{ℕ, suc, _*_}
 use native.Mathlib.Omega.{arith}
 use Rattle.code.specs.Points.{depth}
-use Rattle.checks.proofs.Calls.{refused}
-use Rattle.chain.specs.Chained.{openedSize}
-use Rattle.chain.proofs.Lengths.{size-small, part-small}
-use Rattle.chain.proofs.Ordering.{in-rows, in-parts, shown-answer, shown-opened, shown-ordered}
+use Rattle.checks.proofs.Calls.{refused, accepted}
+use Rattle.encoder.proofs.OpeningLaws.{depth-few, openings-small}
+use Rattle.encoder.proofs.Accepted.{InterleaveFits, interleave-fits}
+use Rattle.chain.proofs.Shown.{shown-answer, shown-opened, shown-zero, shown-ordered}
 use borrow.Author.Needs.{needs}
 use Rattle.chain.proofs.show.Statement.{statement}
 use Rattle.chain.proofs.show.Tie as tie
 
-small : (c : tie.After-opening-size) → c .opening-size .result ≤ 260
-small c = let s = c .before .before .before .before .before .before in rw (c .opening-size .ensures) (size-small (s .args .k) (s .pre .0))
-
--- The bytes of one part.
-width : (c : tie.After-opening-size) → (let a = c .before .before .before .before .before .before .args in a .t * c .opening-size .result ≡ openedSize (a .k) (a .t))
-width c = ap (λ (s : ℕ). c .before .before .before .before .before .before .args .t * s) (c .opening-size .ensures)
+fitting : (s : tie.Start) → InterleaveFits (s .args .k) (s .args .l) (s .args .t) (s .args .opened .now) (s .args .openings .now)
+fitting s = interleave-fits (s .args .k) (s .args .l) (s .args .t) (s .args .opened .now) (s .args .openings .now) (s .pre .1)
 
 opening-size-requires : tie.Need-opening-size-requires
-opening-size-requires c κs = search needs
+opening-size-requires c κs = fitting (c .before .before .before .before .before) .count
 
 mul-width : tie.Need-mul-width
 mul-width c =
-    let start = c .before .before .before .before .before .before in
-    omega (arith, part-small 0 (start .args .t) (c .opening-size .result) (omega arith) (omega (arith, start .fits .t)) (small c))
+    let s = c .before .before .before .before .before .before in
+    let small = openings-small (s .args .t) (depth (s .args .k)) (omega (arith, s .fits .t)) (depth-few (s .args .k) (fitting s .count)) in
+    rw (c .opening-size .ensures) (omega (arith, small))
 
 open-all-requires : tie.Need-open-all-requires
 open-all-requires c κs =
-    let start = c .before .before .before .before .before .before .before in
-    (start .pre .2, start .pre .3 ∙ ap (λ (w : ℕ). suc (start .args .l) * w) (sym (width (c .before))))
+    let s = c .before .before .before .before .before .before .before in
+    (s .pre .0, fitting s .opened-length ∙ ap (λ (size : ℕ). suc (s .args .l) * (s .args .t * size)) (sym (c .before .opening-size .ensures)))
 
 same-length : tie.Need-same-length
 same-length c = search needs
@@ -38,30 +35,17 @@ returns : tie.Need-returns
 returns c =
     let call = c .before .before .before .open-all in
     let sized = c .before .before .before .before .before .opening-size .ensures in
-    let start = c .before .before .before .before .before .before .before .before .before .before .before in
-    let a = start .args in (
-      shown-answer (a .k) (a .t) (a .l) _ (a .wits .now) (a .wit .now) (a .positions .now) (a .opened .now) sized (call .result) (call .ensures .0),
+    let s = c .before .before .before .before .before .before .before .before .before .before .before in
+    let a = s .args in (
+      shown-answer (a .k) (a .t) (a .l) _ (a .wits .now) (a .wit .now) (a .positions .now) (a .opened .now) (a .openings .now) sized (s .pre .1) (call .result) (call .ensures .0),
       (
-        shown-opened (a .k) (a .t) (a .l) _ (a .wits .now) (a .wit .now) (a .positions .now) (a .opened .now) sized _ (call .ensures .1) (start .pre .3),
+        shown-opened (a .k) (a .t) (a .l) _ (a .wits .now) (a .wit .now) (a .positions .now) (a .opened .now) (a .openings .now) sized (s .pre .1) _ (call .ensures .1),
         refused _ (a .openings .now) refl (c .if1 .taken),
       ),
     )
 
-add-in-order : tie.Need-add-in-order
-add-in-order c = search needs
-
-in-order-requires : tie.Need-in-order-requires
-in-order-requires c κs =
-    let call = c .before .before .before .before .before .open-all in
-    let start = c .before .before .before .before .before .before .before .before .before .before .before .before .before in
-    let a = start .args in
-    let size = c .before .before .before .before .before .before .before in (
-      omega arith,
-      omega (arith, start .pre .1),
-      small size,
-      in-parts (a .t) (a .l) (size .opening-size .result) (depth (a .k)) _ (size .opening-size .ensures) (call .kept .1 .1 .1 .1 .1 .1 .0 ∙ start .pre .3),
-      in-rows (a .t) (a .l) (size .opening-size .result) (depth (a .k)) _ (size .opening-size .ensures) (start .pre .4),
-    )
+lomvuze-interleave-requires : tie.Need-lomvuze-interleave-requires
+lomvuze-interleave-requires c κs = search needs
 
 same-length-2 : tie.Need-same-length-2
 same-length-2 c = search needs
@@ -71,14 +55,17 @@ same-length-3 c = search needs
 
 returns-2 : tie.Need-returns-2
 returns-2 c =
-    let call = c .before .before .before .before .before .before .before .before .open-all in
-    let sized = c .before .before .before .before .before .before .before .before .before .before .opening-size .ensures in
-    let start = c .before .before .before .before .before .before .before .before .before .before .before .before .before .before .before .before in
-    let a = start .args in (
-      sym (c .before .before .before .before .before .if1 .left) ∙ shown-answer (a .k) (a .t) (a .l) _ (a .wits .now) (a .wit .now) (a .positions .now) (a .opened .now) sized (call .result) (call .ensures .0),
+    let on = c .before .before .before .before .before in
+    let call = on .before .before .before .open-all in
+    let sized = on .before .before .before .before .before .opening-size .ensures in
+    let s = on .before .before .before .before .before .before .before .before .before .before .before in
+    let a = s .args in
+    let ordered = c .before .before .lomvuze-interleave in
+    let zero = shown-zero (a .k) (a .t) (a .l) _ (a .wits .now) (a .wit .now) (a .positions .now) (a .opened .now) (a .openings .now) sized (s .pre .1) _ (call .ensures .1) (ordered .result) (ordered .ensures .0) in (
+      zero ∙ sym (on .if1 .left) ∙ shown-answer (a .k) (a .t) (a .l) _ (a .wits .now) (a .wit .now) (a .positions .now) (a .opened .now) (a .openings .now) sized (s .pre .1) (call .result) (call .ensures .0),
       (
-        shown-opened (a .k) (a .t) (a .l) _ (a .wits .now) (a .wit .now) (a .positions .now) (a .opened .now) sized _ (call .ensures .1) (start .pre .3),
-        shown-ordered (a .k) (a .t) (a .l) _ (a .wits .now) (a .wit .now) (a .positions .now) (a .opened .now) sized _ (call .ensures .1) _ (c .before .before .in-order .ensures),
+        shown-opened (a .k) (a .t) (a .l) _ (a .wits .now) (a .wit .now) (a .positions .now) (a .opened .now) (a .openings .now) sized (s .pre .1) _ (call .ensures .1),
+        accepted (a .openings .now) refl zero (shown-ordered (a .k) (a .t) (a .l) _ (a .wits .now) (a .wit .now) (a .positions .now) (a .opened .now) (a .openings .now) sized (s .pre .1) _ (call .ensures .1) _ (ordered .ensures .1)),
       ),
     )
 
@@ -91,8 +78,7 @@ show-spec =
     open-all-requires
     same-length
     returns
-    add-in-order
-    in-order-requires
+    lomvuze-interleave-requires
     same-length-2
     same-length-3
     returns-2)

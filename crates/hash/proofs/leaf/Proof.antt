@@ -7,6 +7,9 @@ use Rattle.hash.proofs.Tree.{leaf-message}
 use Rattle.hash.proofs.leaf.Statement.{statement}
 use Rattle.hash.proofs.leaf.Tie as tie
 
+array-write-msg : tie.Need-array-write-msg
+array-write-msg c = search needs
+
 slice-aggregate-copy : tie.Need-slice-aggregate-copy
 slice-aggregate-copy c = search needs
 
@@ -32,6 +35,7 @@ pub leaf-spec : {M : Type 1} → statement M
 leaf-spec =
     tie.close
     (tie.spec
+    array-write-msg
     slice-aggregate-copy
     slice-aggregate-copy-2
     copy-requires

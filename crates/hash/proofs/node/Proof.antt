@@ -7,6 +7,9 @@ use borrow.Author.Needs.{needs}
 use Rattle.hash.proofs.node.Statement.{statement}
 use Rattle.hash.proofs.node.Tie as tie
 
+array-write-msg : tie.Need-array-write-msg
+array-write-msg c = search needs
+
 slice-aggregate-copy : tie.Need-slice-aggregate-copy
 slice-aggregate-copy c = search needs
 
@@ -43,6 +46,7 @@ pub node-spec : {M : Type 1} → statement M
 node-spec =
     tie.close
     (tie.spec
+    array-write-msg
     slice-aggregate-copy
     slice-aggregate-copy-2
     copy-requires

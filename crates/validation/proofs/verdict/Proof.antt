@@ -1,144 +1,35 @@
--- `verdict` meets its contract: the checks are run in their order, and the scan fills the buffers.
-use mathlib.Core.Path.{_≡_, sym, ap, _∙_}
-use mathlib.Core.Bool.{Bool, true, _&&_}
+-- `verdict` meets its contract: the pairs' part answers where it refuses, and the circuit's part behind it.
+use mathlib.Core.Path.{_≡_, _∙_, sym}
 use native.Mathlib.Omega.{arith}
-use Rattle.numbers.proofs.Tests.{and-left}
-use Rattle.theory.specs.Checks.{answer}
-use Rattle.checks.proofs.Calls.{fails, passes, passed}
-use Rattle.scan.specs.Sheet.{sheetLines, ordered}
-use Rattle.validation.specs.SheetChecks.{keepsRules, countsFit, stateFits, sheetChecks}
-use Rattle.validation.specs.Bounds.{BufferLengths}
-use Rattle.validation.proofs.SheetCheckLaws.{refused, too-long, short}
-use Rattle.validation.proofs.AfterScan.{AfterScan, bounds, items-whole, wits-whole, contents-same, accepted}
 use borrow.Author.Needs.{needs}
+use Rattle.theory.specs.Checks.{answer}
+use Rattle.validation.specs.SheetChecks.{sheetChecks}
+use Rattle.validation.proofs.SheetCheckLaws.{refused}
+use Rattle.validation.proofs.PartLaws.{pairs-passed, pairs-zero, first-tests, refused-first, accepted-both}
 use Rattle.validation.proofs.verdict.Statement.{statement}
 use Rattle.validation.proofs.verdict.Tie as tie
 
--- The scan's call, and the function's entry.
-abbrev scan-of : tie.After-is-end → tie.After-scan
-scan-of c = c .before .before .before .before .before .before .before .before .before .before .before
-
-abbrev start : tie.After-scan → tie.Start
-start c = c .before .before .before .before .before .before .before .before .before .before .before .before .before
-
--- ---- check 1
-
-in-order : (c : tie.After-is-end) → c .is-end .result ≡ ordered (sheetLines (start (scan-of c) .args .sheet .now))
-in-order c = c .is-end .ensures ∙ scan-of c .scan .ensures .0
-
-rules : (c : tie.After-is-end) → c .is-end .result ≡ keepsRules (start (scan-of c) .args .sheet .now)
-rules c = short (start (scan-of c) .args .sheet .now) (omega (arith, scan-of c .before .before .before .before .before .before .if1 .left)) (in-order c)
-
-is-ordered : (c : tie.Else2) → ordered (sheetLines (start (scan-of (c .before)) .args .sheet .now)) ≡ true
-is-ordered c = passed (in-order (c .before)) (c .if2 .left)
-
--- ---- check 2
-
-counts : (c : tie.After-counts-fit) → (let s = start (scan-of (c .before .before)) in (c .counts-fit .result && s .args .lengths) ≡ (countsFit (sheetLines (s .args .sheet .now)) && s .args .lengths))
-counts c =
-    let scan = scan-of (c .before .before) in
-    ap (λ (t : Bool). t && start scan .args .lengths) (c .counts-fit .ensures ∙ ap stateFits (scan .scan .ensures .1 .0 (is-ordered (c .before))))
-
-fits : (c : tie.Else3) → stateFits (scan-of (c .before .before .before) .scan .result) ≡ true
-fits c =
-    let s = start (scan-of (c .before .before .before)) in
-    and-left _ (s .args .lengths) (passed (ap (λ (t : Bool). t && s .args .lengths) (c .before .counts-fit .ensures)) (c .if3 .left))
-
--- ---- what the scan leaves
-
-large : (c : tie.After-is-end) → (let l = scan-of c .scan .last in BufferLengths (l .1 .0) (l .1 .1 .0) (l .1 .1 .1 .0) (l .1 .1 .1 .1 .0) (l .1 .1 .1 .1 .1 .0))
-large c =
-    let scratch = start (scan-of c) .pre in
-    record {
-      a-length = omega (arith, scratch .a-length);
-      b-length = omega (arith, scratch .b-length);
-      c-length = omega (arith, scratch .c-length);
-      items-length = omega (arith, scratch .items-length);
-      wits-length = omega (arith, scratch .wits-length);
-    }
-
-scanned : (c : tie.Else3) → (let scan = scan-of (c .before .before .before) in let l = scan .scan .last in AfterScan (start scan .args .sheet .now) (scan .scan .result) (l .1 .0) (l .1 .1 .0) (l .1 .1 .1 .0) (l .1 .1 .1 .1 .0) (l .1 .1 .1 .1 .1 .0))
-scanned c =
-    let c2 = c .before .before in
-    record { read = scan-of (c2 .before) .scan .ensures .1; is-ordered = is-ordered c2; fits = fits c; large = large (c2 .before) }
-
--- ---- checks 3 and 4
-
-abbrev else3 : tie.After-fronts → tie.Else3
-else3 c = c .before .before .before .before .before .before
-
-contents : (c : tie.After-fronts) → (let s = start (scan-of (else3 c .before .before .before)) in c .fronts .result ≡ answer (sheetChecks (s .args .sheet .now) (s .args .lengths)))
-contents c =
-    let c3 = else3 c in
-    let c2 = c3 .before .before in
-    passes 1 (rules (c2 .before)) (c2 .if2 .left) (
-    passes 2 (counts (c3 .before)) (c3 .if3 .left) (
-    c .fronts .ensures ∙ contents-same (scanned c3)))
+-- The answer of the second part, behind a first that passes.
+second : (c : tie.After-circuit-verdict) → (let a = c .before .before .before .before .before .args in c .circuit-verdict .result ≡ answer (sheetChecks (a .sheet .now) (a .lengths)))
+second c =
+    let a = c .before .before .before .before .before .args in
+    c .circuit-verdict .ensures ∙ sym (pairs-passed (a .sheet .now) (a .lengths) (pairs-zero (a .sheet .now) (a .lengths) (c .before .before .before .pairs-verdict .ensures) (omega (arith, c .before .if1 .left))))
 
 returns : tie.Need-returns
-returns c =
-    let a = c .before .before .before .before .before .before .before .before .args in
-    refused _ (c .refused .ensures) (omega arith) (too-long (a .sheet .now) (a .lengths) (omega (arith, c .before .if1 .taken)))
+returns c = let a = c .before .before .before .before .args in refused-first (a .sheet .now) (a .lengths) (c .before .before .pairs-verdict .ensures) (omega (arith, c .if1 .taken))
+
+circuit-verdict-requires : tie.Need-circuit-verdict-requires
+circuit-verdict-requires c κs = let a = c .before .before .before .before .args in first-tests (a .sheet .now) (a .lengths) (pairs-zero (a .sheet .now) (a .lengths) (c .before .before .pairs-verdict .ensures) (omega (arith, c .if1 .left)))
 
 returns-2 : tie.Need-returns-2
-returns-2 c = refused _ (c .refused2 .ensures) (omega arith) (fails 1 _ (rules (c .before .before)) (c .before .if2 .taken))
+returns-2 c = refused _ (c .refused .ensures) (omega (arith, c .before .if2 .taken)) (second (c .before .before))
 
 returns-3 : tie.Need-returns-3
 returns-3 c =
-    let c2 = c .before .before .before in
-    refused _ (c .refused3 .ensures) (omega arith) (
-    passes 1 (rules (c2 .before)) (c2 .if2 .left) (
-    fails 2 _ (counts (c .before .before)) (c .before .if3 .taken)))
-
-fronts-requires : tie.Need-fronts-requires
-fronts-requires c κs =
-    let h = scanned (c .before .before .before .before .before) in
-    ((bounds h, h .large), (items-whole h, wits-whole h))
-
-returns-4 : tie.Need-returns-4
-returns-4 c = refused _ (c .refused4 .ensures) (omega (arith, c .before .if4 .taken)) (contents (c .before .before))
-
-accepted-requires : tie.Need-accepted-requires
-accepted-requires c κs = bounds (scanned (else3 (c .before)))
-
-returns-5 : tie.Need-returns-5
-returns-5 c = accepted (scanned (else3 (c .before .before))) (c .accepted .ensures) (sym (c .before .if4 .left) ∙ contents (c .before .before))
+    let a = c .before .before .before .before .before .before .args in
+    let c1 = c .before .before in
+    accepted-both (a .sheet .now) (a .lengths) (c1 .before .before .pairs-verdict .ensures) (omega (arith, c1 .if1 .left)) (sym (second (c .before)) ∙ c .if2 .left)
 
 pub verdict-spec : {M : Type 1} → statement M
 verdict-spec =
-    tie.close
-    (tie.spec
-    (λ c κs. search needs)
-    returns
-    (λ c κs. search needs)
-    (λ c κs. search needs)
-    (λ c κs. search needs)
-    (λ c. search needs)
-    (λ c. search needs)
-    (λ c. search needs)
-    (λ c. search needs)
-    (λ c. search needs)
-    returns-2
-    (λ c κs. search needs)
-    (λ c κs. search needs)
-    (λ c. search needs)
-    (λ c. search needs)
-    (λ c. search needs)
-    (λ c. search needs)
-    (λ c. search needs)
-    returns-3
-    fronts-requires
-    (λ c κs. search needs)
-    (λ c. search needs)
-    (λ c. search needs)
-    (λ c. search needs)
-    (λ c. search needs)
-    (λ c. search needs)
-    returns-4
-    accepted-requires
-    (λ c. search needs)
-    (λ c. search needs)
-    (λ c. search needs)
-    (λ c. search needs)
-    (λ c. search needs)
-    returns-5)
+    tie.close (tie.spec (λ c κs. search needs) returns circuit-verdict-requires (λ c κs. search needs) returns-2 returns-3)

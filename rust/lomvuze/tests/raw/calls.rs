@@ -7,7 +7,7 @@
 
 #![allow(clippy::too_many_arguments)]
 
-use lomvuze::{Circuit, Digest, Entry, Item, Opening, Refusal, Sizes};
+use lomvuze::{Circuit, Digest, Entry, Item, Opening, Positions, Refusal, Sizes, Witness};
 use lomvuze_samples::{bytes, number_at};
 
 fn answer(call: impl FnOnce() -> Result<(), Refusal>) -> u32 {
@@ -33,8 +33,9 @@ fn parts(buffer: &[u8], length: usize) -> Result<Vec<&[u8]>, Refusal> {
     Ok(buffer.chunks(length).collect())
 }
 
-fn numbers(buffer: &[u8]) -> Result<Vec<u32>, Refusal> {
-    Ok(parts(buffer, 4)?.into_iter().map(|part| number_at(part, 0)).collect())
+fn numbers<List: From<Vec<u32>>>(buffer: &[u8]) -> Result<List, Refusal> {
+    let numbers: Vec<u32> = parts(buffer, 4)?.into_iter().map(|part| number_at(part, 0)).collect();
+    Ok(numbers.into())
 }
 
 fn entries(buffer: &[u8]) -> Result<Vec<Entry>, Refusal> {
@@ -60,12 +61,9 @@ fn items(sizes: Sizes, l: u32, buffer: &[u8]) -> Result<Vec<Item>, Refusal> {
     let parts = parts(buffer, root + 32)?;
     check_2(parts.len() == l as usize)?;
     let item = |part: &[u8]| {
-        Ok(Item {
-            e: number_at(part, 0),
-            r: numbers(&part[4..x])?,
-            x: numbers(&part[x..root])?,
-            root: digest(&part[root..]),
-        })
+        let mut item = Item::new(numbers(&part[4..x])?, numbers(&part[x..root])?, digest(&part[root..]));
+        item.e = number_at(part, 0);
+        Ok(item)
     };
     parts.into_iter().map(item).collect()
 }
@@ -74,17 +72,20 @@ fn item(sizes: Sizes, buffer: &[u8]) -> Result<Item, Refusal> {
     Ok(items(sizes, 1, buffer)?.remove(0))
 }
 
-fn witnesses(k: u32, buffer: &[u8]) -> Result<Vec<Vec<u32>>, Refusal> {
+fn witnesses(k: u32, buffer: &[u8]) -> Result<Vec<Witness>, Refusal> {
     parts(buffer, 4 * k as usize)?.into_iter().map(numbers).collect()
 }
 
-/// Item by item, as the crate takes them.
-fn openings(sizes: Sizes, l: u32, buffer: &[u8]) -> Result<Vec<Vec<Opening>>, Refusal> {
+fn openings(sizes: Sizes, buffer: &[u8]) -> Result<Vec<Opening>, Refusal> {
     let opening =
         |part: &[u8]| Opening { value: number_at(part, 0), path: part[4..].chunks(32).map(digest).collect() };
-    let all: Vec<Opening> = parts(buffer, sizes.opening_bytes())?.into_iter().map(opening).collect();
+    Ok(parts(buffer, sizes.opening_bytes())?.into_iter().map(opening).collect())
+}
+
+/// From position by position to item by item, as the crate takes them.
+fn by_item(l: u32, openings: Vec<Opening>) -> Vec<Vec<Opening>> {
     let count = l as usize + 1;
-    Ok((0..count).map(|i| all.iter().skip(i).step_by(count).cloned().collect()).collect())
+    (0..count).map(|i| openings.iter().skip(i).step_by(count).cloned().collect()).collect()
 }
 
 // ---- Writing
@@ -93,8 +94,8 @@ fn item_bytes(item: &Item) -> Vec<u8> {
     [bytes(&[item.e]), bytes(&item.r), bytes(&item.x), item.root.to_vec()].concat()
 }
 
-fn opening_bytes(opening: &Opening) -> Vec<u8> {
-    [bytes(&[opening.value]), opening.path.concat()].concat()
+fn openings_bytes(openings: &[Opening]) -> Vec<u8> {
+    openings.iter().flat_map(|opening| [bytes(&[opening.value]), opening.path.concat()].concat()).collect()
 }
 
 // ---- The calls
@@ -173,7 +174,8 @@ pub fn fold(
         let items = items(sizes, l, items_in)?;
         check_2(quotient_out.len() == sizes.quotient_bytes(items.len()))?;
         check_2(item_out.len() == sizes.item_bytes() && wit_out.len() == sizes.witness_bytes())?;
-        let folded = lomvuze::fold(sizes, challenge, &circuit(a, b, c)?, &items, &witnesses(k, wits)?)?;
+        let folded =
+            lomvuze::fold(sizes, challenge.into(), &circuit(a, b, c)?, &items, &witnesses(k, wits)?)?;
         quotient_out.copy_from_slice(&bytes(&folded.quotient));
         item_out.copy_from_slice(&item_bytes(&folded.item));
         wit_out.copy_from_slice(&bytes(&folded.witness));
@@ -184,11 +186,21 @@ pub fn fold(
 pub fn open(k: u32, t: u32, w: &[u8], positions: &[u8], openings_out: &mut [u8]) -> u32 {
     answer(|| {
         let sizes = Sizes { m: 0, n: 1, k };
-        let positions = numbers(positions)?;
+        let positions: Positions = numbers(positions)?;
         check_2(positions.len() == t as usize)?;
         check_2(openings_out.len() == sizes.openings_bytes(positions.len()))?;
-        let openings = lomvuze::open(k, &numbers(w)?, &positions)?;
-        openings_out.copy_from_slice(&openings.iter().flat_map(opening_bytes).collect::<Vec<_>>());
+        openings_out.copy_from_slice(&openings_bytes(&lomvuze::open(k, &numbers(w)?, &positions)?));
+        Ok(())
+    })
+}
+
+pub fn interleave(k: u32, l: u32, t: u32, opened: &[u8], openings_out: &mut [u8]) -> u32 {
+    answer(|| {
+        let openings = openings(Sizes { m: 0, n: 1, k }, opened)?;
+        check_2(t > 0 && openings.len() as u64 == (l as u64 + 1) * t as u64)?;
+        check_2(openings_out.len() == opened.len())?;
+        let of_each: Vec<&[Opening]> = openings.chunks(t as usize).collect();
+        openings_out.copy_from_slice(&openings_bytes(&lomvuze::interleave(k, &of_each)?));
         Ok(())
     })
 }
@@ -208,11 +220,11 @@ pub fn verify(
 ) -> u32 {
     answer(|| {
         let sizes = Sizes { m, n, k };
-        let (items, positions) = (items(sizes, l, items_in)?, numbers(positions)?);
+        let (items, positions): (_, Positions) = (items(sizes, l, items_in)?, numbers(positions)?);
         check_2(positions.len() == t as usize)?;
         let (quotient, new_item) = (numbers(quotient)?, item(sizes, new_item)?);
-        let openings = openings(sizes, l, openings_in)?;
-        lomvuze::verify(sizes, challenge, &items, &positions, &quotient, &new_item, &openings)
+        let openings = by_item(l, openings(sizes, openings_in)?);
+        lomvuze::verify(sizes, challenge.into(), &items, &positions, &quotient, &new_item, &openings)
     })
 }
 

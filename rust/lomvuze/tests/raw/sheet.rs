@@ -1,7 +1,7 @@
 //! The crate's reader of sheets with the arguments of the library's own, so that both can read the same sheet.
 //! The lengths of the buffers cannot be said to the crate's; they are answered here, as check 2 does.
 
-use lomvuze::{Circuit, Entry, Item, Refusal, Sizes};
+use lomvuze::{Circuit, Entry, Item, Refusal, Sizes, Witness};
 use lomvuze_reference::sheet::{Pair, Reading, Sheet};
 use lomvuze_samples::sheet::Buffers;
 
@@ -10,14 +10,15 @@ pub use lomvuze_reference::sheet::listing;
 
 /// What the crate read, as the samples have it.
 fn says(sheet: lomvuze::Sheet) -> Sheet {
-    let lomvuze::Sheet { sizes: Sizes { m, n, k }, circuit: Circuit { a, b, c }, items, witnesses } = sheet;
+    let lomvuze::Sheet { sizes: Sizes { m, n, k }, circuit: Circuit { a, b, c }, items, witnesses, .. } =
+        sheet;
     let [a, b, c] = [a, b, c].map(|list| {
         list.into_iter().map(|Entry { row, column, value }| [row, column, value]).collect::<Vec<_>>()
     });
     assert_eq!(items.len(), witnesses.len());
-    let pair = |(Item { e, r, x, root }, witness)| {
+    let pair = |(Item { e, r, x, root, .. }, witness): (Item, Witness)| {
         assert_eq!([r.len(), x.len()], [m as usize, n as usize]);
-        Pair { numbers: [vec![e], r, x].concat(), root, witness }
+        Pair { numbers: [vec![e], r.into(), x.into()].concat(), root, witness: witness.into() }
     };
     let pairs: Vec<Pair> = items.into_iter().zip(witnesses).map(pair).collect();
     Sheet { size: [m, n, k], a, b, c, end: pairs.len() as u32, pairs }

@@ -6,14 +6,14 @@ use Prim.Native.Nat.{ℕ, _+_, _-_, _*_, _≤_}
 use native.Mathlib.Omega.{arith}
 use lib.ListN.{length}
 use Rattle.algebra.specs.Lists.{build}
-use Rattle.theory.specs.Calls.{Opened}
+use Rattle.theory.specs.Results.{Opened}
 use Rattle.theory.specs.Fp.{«open»}
 use Rattle.theory.proofs.Parts.{part-cut, part-within}
 use Rattle.chain.specs.Answers.{firstRefusal}
-use Rattle.chain.specs.Parts.{Filled}
+use Rattle.encoder.specs.Parts.{Filled}
 use Rattle.chain.specs.Chained.{openItem}
 use Rattle.chain.proofs.Refusals.{refusal-next}
-use Rattle.chain.proofs.Filling.{none-filled, still, one-filled}
+use Rattle.encoder.proofs.Filling.{none-filled, still, one-filled}
 use Rattle.chain.proofs.opening.open_list.Statement.{statement}
 use Rattle.chain.proofs.opening.open_list.Tie as tie
 

@@ -4,7 +4,7 @@ use mathlib.Core.List.{List}
 use Prim.Native.Nat.{ℕ}
 use Rattle.theory.specs.Fp.{«open»}
 use Rattle.theory.proofs.Parts.{part-cut}
-use Rattle.chain.proofs.Filling.{borrowed-back}
+use Rattle.encoder.proofs.Filling.{borrowed-back}
 use borrow.Author.Needs.{needs}
 use Rattle.chain.proofs.opening.open_part.Statement.{statement}
 use Rattle.chain.proofs.opening.open_part.Tie as tie

@@ -14,10 +14,10 @@ use borrow.Author.Needs.{needs}
 use Rattle.encoder.proofs.open.fits.Statement.{statement}
 use Rattle.encoder.proofs.open.fits.Tie as tie
 
--- The tests, over the answers of those that other functions make and the depth that one finds.
+-- The tests, over the answers of those that other functions make and the size that one finds.
 abbrev tests : ℕ → ℕ → List ℕ → List ℕ → List ℕ → Bool → Bool → ℕ → Bool
-tests k t w positions openings counted fits d =
-    counted && fits && hasLength w (4 * k) && hasLength positions (4 * t) && hasLength openings (t * openingSize d)
+tests k t w positions openings counted fits size =
+    counted && fits && hasLength w (4 * k) && hasLength positions (4 * t) && hasLength openings (t * size)
 
 counted : (c : tie.Else1) → isWitnessCount (c .before .before .before .before .before .args .k) ≡ true
 counted c = let s = c .before .is-witness-count in sym (s .ensures) ∙ not-false (s .result) (c .if1 .left)
@@ -29,17 +29,11 @@ returns : tie.Need-returns
 returns c =
     let a = c .before .before .before .before .before .args in
     let s = c .before .is-witness-count in
-    ap (λ (n : Bool). tests (a .k) (a .t) (a .w .now) (a .positions .now) (a .openings .now) n (positionCountFits (a .k) (a .t)) (depth (a .k)))
+    ap (λ (n : Bool). tests (a .k) (a .t) (a .w .now) (a .positions .now) (a .openings .now) n (positionCountFits (a .k) (a .t)) (openingSize (depth (a .k))))
     (sym (not-true (s .result) (c .if1 .taken)) ∙ s .ensures)
 
-depth-of-requires : tie.Need-depth-of-requires
-depth-of-requires c κs = counted c
-
-mul-size : tie.Need-mul-size
-mul-size c = omega (arith, c .depth-of .ensures, depth-few (c .before .before .before .before .before .before .args .k) (counted (c .before)))
-
-add-size : tie.Need-add-size
-add-size c = omega (arith, c .depth-of .ensures, depth-few (c .before .before .before .before .before .before .args .k) (counted (c .before)))
+opening-size-requires : tie.Need-opening-size-requires
+opening-size-requires c κs = counted c
 
 position-count-fits-requires : tie.Need-position-count-fits-requires
 position-count-fits-requires c κs = omega (arith, count-few (c .before .before .before .before .before .before .args .k) (counted (c .before)))
@@ -53,14 +47,15 @@ mul-result-2 c = search needs
 mul-result-3 : tie.Need-mul-result-3
 mul-result-3 c =
     let a = c .before .before .before .before .before .before .before .args in
-    omega (arith, openings-small (a .t) (c .before .depth-of .result) (omega arith) (omega (arith, c .before .depth-of .ensures, depth-few (a .k) (counted (c .before .before)))))
+    let small = openings-small (a .t) (depth (a .k)) (omega arith) (depth-few (a .k) (counted (c .before .before))) in
+    rw (c .before .opening-size .ensures) (omega (arith, small))
 
 returns-2 : tie.Need-returns-2
 returns-2 c =
     let a = c .before .before .before .before .before .before .before .args in
     let test = tests (a .k) (a .t) (a .w .now) (a .positions .now) (a .openings .now) in
-    ap₂ (test true) (c .position-count-fits .ensures) (c .before .depth-of .ensures)
-    ∙ ap (λ (n : Bool). test n (positionCountFits (a .k) (a .t)) (depth (a .k))) (sym (counted (c .before .before)))
+    ap₂ (test true) (c .position-count-fits .ensures) (c .before .opening-size .ensures)
+    ∙ ap (λ (n : Bool). test n (positionCountFits (a .k) (a .t)) (openingSize (depth (a .k)))) (sym (counted (c .before .before)))
 
 pub fits-spec : {M : Type 1} → statement M
 fits-spec =
@@ -68,9 +63,7 @@ fits-spec =
     (tie.spec
     is-witness-count-requires
     returns
-    depth-of-requires
-    mul-size
-    add-size
+    opening-size-requires
     position-count-fits-requires
     mul-result
     mul-result-2

@@ -1,5 +1,5 @@
 -- `keyword::keyword_of` meets its contract: the tests pass and fail as those of the definition.
-use mathlib.Core.Path.{sym, _∙_}
+use mathlib.Core.Path.{refl, sym, _∙_}
 use borrow.Author.Needs.{needs}
 use Rattle.lines.proofs.keyword.keyword_of.Statement.{statement}
 use Rattle.lines.proofs.keyword.keyword_of.Tie as tie
@@ -12,7 +12,7 @@ same-requires c κs = search needs
 
 returns : tie.Need-returns
 returns c =
-    sym (rw (sym (c .before .same .ensures) ∙ c .if1 .taken))
+    sym (rw (sym (c .before .same .ensures) ∙ c .if1 .taken) refl)
 
 slice-aggregate-same-2 : tie.Need-slice-aggregate-same-2
 slice-aggregate-same-2 c = search needs
@@ -23,7 +23,7 @@ same-requires-2 c κs = search needs
 returns-2 : tie.Need-returns-2
 returns-2 c =
     let c₁ = c .before .before .before in
-    sym (rw (sym (c₁ .before .same .ensures) ∙ c₁ .if1 .left, sym (c .before .same2 .ensures) ∙ c .if2 .taken))
+    sym (rw (sym (c₁ .before .same .ensures) ∙ c₁ .if1 .left, sym (c .before .same2 .ensures) ∙ c .if2 .taken) refl)
 
 slice-aggregate-same-3 : tie.Need-slice-aggregate-same-3
 slice-aggregate-same-3 c = search needs
@@ -35,7 +35,7 @@ returns-3 : tie.Need-returns-3
 returns-3 c =
     let c₂ = c .before .before .before in
     let c₁ = c₂ .before .before .before in
-    sym (rw (sym (c₁ .before .same .ensures) ∙ c₁ .if1 .left, sym (c₂ .before .same2 .ensures) ∙ c₂ .if2 .left, sym (c .before .same3 .ensures) ∙ c .if3 .taken))
+    sym (rw (sym (c₁ .before .same .ensures) ∙ c₁ .if1 .left, sym (c₂ .before .same2 .ensures) ∙ c₂ .if2 .left, sym (c .before .same3 .ensures) ∙ c .if3 .taken) refl)
 
 slice-aggregate-same-4 : tie.Need-slice-aggregate-same-4
 slice-aggregate-same-4 c = search needs
@@ -48,7 +48,7 @@ returns-4 c =
     let c₃ = c .before .before .before in
     let c₂ = c₃ .before .before .before in
     let c₁ = c₂ .before .before .before in
-    sym (rw (sym (c₁ .before .same .ensures) ∙ c₁ .if1 .left, sym (c₂ .before .same2 .ensures) ∙ c₂ .if2 .left, sym (c₃ .before .same3 .ensures) ∙ c₃ .if3 .left, sym (c .before .same4 .ensures) ∙ c .if4 .taken))
+    sym (rw (sym (c₁ .before .same .ensures) ∙ c₁ .if1 .left, sym (c₂ .before .same2 .ensures) ∙ c₂ .if2 .left, sym (c₃ .before .same3 .ensures) ∙ c₃ .if3 .left, sym (c .before .same4 .ensures) ∙ c .if4 .taken) refl)
 
 slice-aggregate-same-5 : tie.Need-slice-aggregate-same-5
 slice-aggregate-same-5 c = search needs
@@ -62,7 +62,7 @@ returns-5 c =
     let c₃ = c₄ .before .before .before in
     let c₂ = c₃ .before .before .before in
     let c₁ = c₂ .before .before .before in
-    sym (rw (sym (c₁ .before .same .ensures) ∙ c₁ .if1 .left, sym (c₂ .before .same2 .ensures) ∙ c₂ .if2 .left, sym (c₃ .before .same3 .ensures) ∙ c₃ .if3 .left, sym (c₄ .before .same4 .ensures) ∙ c₄ .if4 .left, sym (c .before .same5 .ensures) ∙ c .if5 .taken))
+    sym (rw (sym (c₁ .before .same .ensures) ∙ c₁ .if1 .left, sym (c₂ .before .same2 .ensures) ∙ c₂ .if2 .left, sym (c₃ .before .same3 .ensures) ∙ c₃ .if3 .left, sym (c₄ .before .same4 .ensures) ∙ c₄ .if4 .left, sym (c .before .same5 .ensures) ∙ c .if5 .taken) refl)
 
 slice-aggregate-same-6 : tie.Need-slice-aggregate-same-6
 slice-aggregate-same-6 c = search needs
@@ -77,7 +77,7 @@ returns-6 c =
     let c₃ = c₄ .before .before .before in
     let c₂ = c₃ .before .before .before in
     let c₁ = c₂ .before .before .before in
-    sym (rw (sym (c₁ .before .same .ensures) ∙ c₁ .if1 .left, sym (c₂ .before .same2 .ensures) ∙ c₂ .if2 .left, sym (c₃ .before .same3 .ensures) ∙ c₃ .if3 .left, sym (c₄ .before .same4 .ensures) ∙ c₄ .if4 .left, sym (c₅ .before .same5 .ensures) ∙ c₅ .if5 .left, sym (c .before .same6 .ensures) ∙ c .if6 .taken))
+    sym (rw (sym (c₁ .before .same .ensures) ∙ c₁ .if1 .left, sym (c₂ .before .same2 .ensures) ∙ c₂ .if2 .left, sym (c₃ .before .same3 .ensures) ∙ c₃ .if3 .left, sym (c₄ .before .same4 .ensures) ∙ c₄ .if4 .left, sym (c₅ .before .same5 .ensures) ∙ c₅ .if5 .left, sym (c .before .same6 .ensures) ∙ c .if6 .taken) refl)
 
 slice-aggregate-same-7 : tie.Need-slice-aggregate-same-7
 slice-aggregate-same-7 c = search needs
@@ -93,7 +93,7 @@ returns-7 c =
     let c₃ = c₄ .before .before .before in
     let c₂ = c₃ .before .before .before in
     let c₁ = c₂ .before .before .before in
-    sym (rw (sym (c₁ .before .same .ensures) ∙ c₁ .if1 .left, sym (c₂ .before .same2 .ensures) ∙ c₂ .if2 .left, sym (c₃ .before .same3 .ensures) ∙ c₃ .if3 .left, sym (c₄ .before .same4 .ensures) ∙ c₄ .if4 .left, sym (c₅ .before .same5 .ensures) ∙ c₅ .if5 .left, sym (c₆ .before .same6 .ensures) ∙ c₆ .if6 .left, sym (c .before .same7 .ensures) ∙ c .if7 .taken))
+    sym (rw (sym (c₁ .before .same .ensures) ∙ c₁ .if1 .left, sym (c₂ .before .same2 .ensures) ∙ c₂ .if2 .left, sym (c₃ .before .same3 .ensures) ∙ c₃ .if3 .left, sym (c₄ .before .same4 .ensures) ∙ c₄ .if4 .left, sym (c₅ .before .same5 .ensures) ∙ c₅ .if5 .left, sym (c₆ .before .same6 .ensures) ∙ c₆ .if6 .left, sym (c .before .same7 .ensures) ∙ c .if7 .taken) refl)
 
 returns-8 : tie.Need-returns-8
 returns-8 c =
@@ -103,7 +103,7 @@ returns-8 c =
     let c₃ = c₄ .before .before .before in
     let c₂ = c₃ .before .before .before in
     let c₁ = c₂ .before .before .before in
-    sym (rw (sym (c₁ .before .same .ensures) ∙ c₁ .if1 .left, sym (c₂ .before .same2 .ensures) ∙ c₂ .if2 .left, sym (c₃ .before .same3 .ensures) ∙ c₃ .if3 .left, sym (c₄ .before .same4 .ensures) ∙ c₄ .if4 .left, sym (c₅ .before .same5 .ensures) ∙ c₅ .if5 .left, sym (c₆ .before .same6 .ensures) ∙ c₆ .if6 .left, sym (c .before .same7 .ensures) ∙ c .if7 .left))
+    sym (rw (sym (c₁ .before .same .ensures) ∙ c₁ .if1 .left, sym (c₂ .before .same2 .ensures) ∙ c₂ .if2 .left, sym (c₃ .before .same3 .ensures) ∙ c₃ .if3 .left, sym (c₄ .before .same4 .ensures) ∙ c₄ .if4 .left, sym (c₅ .before .same5 .ensures) ∙ c₅ .if5 .left, sym (c₆ .before .same6 .ensures) ∙ c₆ .if6 .left, sym (c .before .same7 .ensures) ∙ c .if7 .left) refl)
 
 pub keyword-of-spec : {M : Type 1} → statement M
 keyword-of-spec =

@@ -88,7 +88,7 @@ returns-2 : tie.Need-returns-2 Inv-loop μ-loop
 returns-2 c =
     let a = c .before .before .before .before .before .before .before .args in
     let l = c .before .before .before .before .loop in
-    number-big (a .s .now) (a .at) (l .value) (l .i) (l .inv .2) (c .if3 .taken)
+    number-big (a .s .now) (a .at) (l .value) (l .i) (l .inv .2) (omega arith)
 
 sub-count : tie.Need-sub-count Inv-loop μ-loop
 sub-count c = omega arith
@@ -97,7 +97,7 @@ returns-3 : tie.Need-returns-3 Inv-loop μ-loop
 returns-3 c =
     let a = c .before .before .before .before .before .before .before .before .args in
     let l = c .before .before .before .before .before .loop in
-    number-none (a .s .now) (a .at) (l .value) (l .i) (l .inv .2) (over (c .before .before)) (c .before .if3 .left) (omega arith) (c .if4 .taken)
+    number-none (a .s .now) (a .at) (l .value) (l .i) (l .inv .2) (over (c .before .before)) (omega arith) (omega arith) (c .if4 .taken)
 
 shared-slice-read-if5 : tie.Need-shared-slice-read-if5 Inv-loop μ-loop
 shared-slice-read-if5 c =
@@ -109,7 +109,7 @@ returns-4 : tie.Need-returns-4 Inv-loop μ-loop
 returns-4 c =
     let a = c .before .before .before .before .before .before .before .before .before .before .args in
     let l = c .before .before .before .before .before .before .before .loop in
-    number-zero (a .s .now) (a .at) (l .value) (l .i) (l .inv .2) (over (c .before .before .before .before)) (c .before .before .before .if3 .left) (omega arith) (c .before .before .if4 .left) (c .if5 .taken)
+    number-zero (a .s .now) (a .at) (l .value) (l .i) (l .inv .2) (over (c .before .before .before .before)) (omega arith) (omega arith) (c .before .before .if4 .left) (c .if5 .taken)
 
 cast-x : tie.Need-cast-x Inv-loop μ-loop
 cast-x c = omega arith
@@ -118,7 +118,7 @@ returns-5 : tie.Need-returns-5 Inv-loop μ-loop
 returns-5 c =
     let a = c .before .before .before .before .before .before .before .before .before .before .args in
     let l = c .before .before .before .before .before .before .before .loop in
-    number-good (a .s .now) (a .at) (l .value) (l .i) (l .inv .2) (over (c .before .before .before .before)) (c .before .before .before .if3 .left) (omega arith) (c .before .before .if4 .left) (c .if5 .left)
+    number-good (a .s .now) (a .at) (l .value) (l .i) (l .inv .2) (over (c .before .before .before .before)) (omega arith) (omega arith) (c .before .before .if4 .left) (c .if5 .left)
 
 pub number-at-spec : {M : Type 1} → statement M
 number-at-spec =

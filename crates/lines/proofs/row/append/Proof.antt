@@ -21,7 +21,7 @@ same-length c = search needs
 returns : tie.Need-returns
 returns c =
     let a = c .before .before .before .before .before .before .args in
-    appended-put (a .count) (bytes4 (a .x)) (a .buffer .now) (c .before .before .put .last .0) (omega arith) (c .before .before .put .ensures)
+    appended-put (a .count) (bytes4 (a .x)) (a .buffer .now) (omega arith) (c .before .before .put .ensures)
 
 returns-2 : tie.Need-returns-2
 returns-2 c =

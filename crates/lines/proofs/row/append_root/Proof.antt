@@ -15,7 +15,7 @@ returns c =
     let part = take (4 * a .count + 32 - 4 * a .count) (drop (4 * a .count) (a .buffer .now)) in
     let size : length (a .t3) ≡ 32 = omega arith in
     let fits : length part ≤ length (a .t3) = omega (arith, length-take (4 * a .count + 32 - 4 * a .count) (drop (4 * a .count) (a .buffer .now))) in
-    appended-put (a .count) (a .t3) (a .buffer .now) _ (omega arith)
+    appended-put (a .count) (a .t3) (a .buffer .now) (omega arith)
     (put-back (a .buffer .now) (a .t3) (c .before .before .copy .last .1 .0) (4 * a .count) (4 * a .count + 32 - 4 * a .count) (length (a .t3)) (c .before .before .copy .ensures .1 ∙ copied-over (a .t3) part fits) (omega arith))
 
 returns-2 : tie.Need-returns-2

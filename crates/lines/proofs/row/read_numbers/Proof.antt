@@ -1,5 +1,5 @@
 -- `row::read_numbers` meets its contract. The invariant: the numbers from `place` on, behind n, are those from `at` on, behind `count`,
--- and so is what they append. The measure is what is left of the text.
+-- and they leave the same buffer. The measure is what is left of the text.
 use mathlib.Core.Path.{_≡_, refl, sym, _∙_}
 use Prim.Native.Nat.{_-_, _≤_}
 use native.Mathlib.Omega.{arith}
@@ -18,7 +18,7 @@ abbrev μ-loop : tie.MeasureT-loop
 μ-loop s at buffer₀ count place₀ n₀ buffer place n = length s - place
 
 loop-holds : tie.Need-loop-holds Inv-loop μ-loop
-loop-holds c = (search needs, search needs, refl, (refl, refl, λ later a. a))
+loop-holds c = (search needs, search needs, refl, (refl, refl))
 
 number-at-requires : tie.Need-number-at-requires Inv-loop μ-loop
 number-at-requires c κs = search needs
@@ -45,7 +45,7 @@ add-n : tie.Need-add-n Inv-loop μ-loop
 add-n c = omega arith
 
 same-length-2 : tie.Need-same-length-2 Inv-loop μ-loop
-same-length-2 c = c .before .before .before .append .ensures .0 ∙ c .before .before .before .before .before .before .before .before .before .loop .inv .2
+same-length-2 c = c .before .before .before .append .kept .0 ∙ c .before .before .before .before .before .before .before .before .before .loop .inv .2
 
 returns-2 : tie.Need-returns-2 Inv-loop μ-loop
 returns-2 c =
@@ -72,7 +72,7 @@ shared-slice-read-if2 c =
     end-before (a .s .now) (l .place) _ (l .inv .0) (read .2) (c .before .if1 .left)
 
 same-length-3 : tie.Need-same-length-3 Inv-loop μ-loop
-same-length-3 c = c .before .before .before .before .before .append .ensures .0 ∙ c .before .before .before .before .before .before .before .before .before .before .before .loop .inv .2
+same-length-3 c = c .before .before .before .before .before .append .kept .0 ∙ c .before .before .before .before .before .before .before .before .before .before .before .loop .inv .2
 
 returns-3 : tie.Need-returns-3 Inv-loop μ-loop
 returns-3 c =
@@ -99,7 +99,7 @@ loop-again c =
     let within = end-before (a .s .now) (l .place) _ (l .inv .0) (read .2) (c .before .before .if1 .left) in (
       omega arith,
       omega arith,
-      c .before .before .before .before .before .append .ensures .0 ∙ l .inv .2,
+      c .before .before .before .before .before .append .kept .0 ∙ l .inv .2,
       numbers-more (a .s .now) (a .at) (a .count) (a .buffer .now) (l .place) (l .n) (l .buffer) (l .inv .3) _ _ (l .inv .0) read _ (c .before .before .before .before .before .append .ensures) (c .before .before .if1 .left) (c .if2 .left),
     )
 

@@ -1,0 +1,79 @@
+/* Items and folds by hand. */
+#include <stdio.h>
+#include <stdlib.h>
+#include <string.h>
+
+#include "modp.h"
+#include "obligations.h"
+
+const struct circuit product = {0, 1, 2, LOMVUZE_ENTRIES_BYTES(1), {ENTRY(0, 1)}, {ENTRY(0, 2)}, {ENTRY(0, 0)}};
+
+const struct claim six = {.x = {6}, .w = {2, 3}};
+const struct claim twenty_one = {.x = {21}, .w = {3, 7}};
+const struct claim falsehood = {.x = {21}, .w = {4, 5}};
+
+uint32_t number(const uint8_t *bytes, size_t j) {
+  const uint8_t *at = bytes + LOMVUZE_NUMBER_BYTES * j;
+  return (uint32_t)at[0] | (uint32_t)at[1] << 8 | (uint32_t)at[2] << 16 | (uint32_t)at[3] << 24;
+}
+
+void put(uint8_t *bytes, size_t j, uint32_t value) {
+  for (size_t i = 0; i < LOMVUZE_NUMBER_BYTES; i++) bytes[LOMVUZE_NUMBER_BYTES * j + i] = (uint8_t)(value >> (8 * i));
+}
+
+void need(const char *call, uint32_t answer) {
+  if (answer == LOMVUZE_ACCEPTED) return;
+  fprintf(stderr, "%s answered %u\n", call, (unsigned)answer);
+  exit(1);
+}
+
+void put_root(const struct circuit *c, struct pair *pair) {
+  uint8_t codeword[LOMVUZE_CODEWORD_BYTES(MOST_K)];
+  need("encode", lomvuze_encode(c->k, pair->witness, LOMVUZE_WITNESS_BYTES(c->k),
+                                codeword, LOMVUZE_CODEWORD_BYTES(c->k),
+                                pair->item + LOMVUZE_ITEM_ROOT(c->m, c->n), LOMVUZE_DIGEST_BYTES));
+}
+
+struct pair written(const struct circuit *c, struct claim claim) {
+  struct pair pair = {{0}, {0}};
+  put(pair.item, 0, claim.e);
+  if (c->m == 1) put(pair.item, 1, claim.r);
+  for (size_t j = 0; j < c->n; j++) put(pair.item, 1 + c->m + j, claim.x[j]);
+  for (size_t j = 0; j < c->k; j++) put(pair.witness, j, claim.w[j]);
+  put_root(c, &pair);
+  return pair;
+}
+
+/* (x0 + e) * 1 = x0 + e. */
+struct pair twin(const struct pair *pair) {
+  uint32_t e = number(pair->item, 0), x = number(pair->item, 1);
+  return written(&product, (struct claim){.e = e, .x = {x}, .w = {plus(x, e), 1}});
+}
+
+struct fold fold_of(const struct circuit *c, struct pair first, struct pair second, uint32_t quotient) {
+  struct fold fold = {.circuit = c};
+  size_t item = LOMVUZE_ITEM_BYTES(c->m, c->n), witness = LOMVUZE_WITNESS_BYTES(c->k);
+  memcpy(fold.items, first.item, item);
+  memcpy(fold.items + item, second.item, item);
+  memcpy(fold.witnesses, first.witness, witness);
+  memcpy(fold.witnesses + witness, second.witness, witness);
+  put(fold.quotient, 0, quotient);
+  return fold;
+}
+
+/* With two items L_0(a) = 1 - a, L_1(a) = a and Z(a) = a * (a - 1). */
+static uint32_t combined(uint32_t a, uint32_t first, uint32_t second) {
+  return plus(times(minus(1, a), first), times(a, second));
+}
+
+void fold_by_hand(struct fold *f) {
+  const struct circuit *c = f->circuit;
+  const uint8_t *second = f->items + LOMVUZE_ITEM_BYTES(c->m, c->n);
+  uint32_t a = f->challenge, quotient = 0;
+  for (size_t j = 0; j < 1 + c->m + c->n; j++) put(f->out.item, j, combined(a, number(f->items, j), number(second, j)));
+  for (size_t j = 0; j < c->k; j++) put(f->out.witness, j, combined(a, number(f->witnesses, j), number(f->witnesses, c->k + j)));
+  for (size_t j = c->m + 1; j > 0; j--) quotient = plus(times(quotient, a), number(f->quotient, j - 1));
+  uint32_t z = times(a, minus(a, 1));
+  put(f->out.item, 0, plus(number(f->out.item, 0), times(z, quotient)));
+  put_root(c, &f->out);
+}

@@ -1,0 +1,134 @@
+/*
+ * What the runs share: circuits, items with their witnesses, folds of two items, and the count of answers.
+ */
+#ifndef OBLIGATIONS_H
+#define OBLIGATIONS_H
+
+#include <stdbool.h>
+#include <stdint.h>
+
+#include "lomvuze.h"
+
+/* How many challenges each run tries. */
+enum { CHALLENGES = 2000 };
+
+/* The greatest sizes of the runs. */
+#define MOST_M 1u
+#define MOST_N 2u
+#define MOST_K 4u
+#define FOLDED 2u
+
+/* ---- What is folded */
+
+/* A circuit with its sizes. Each of its three lists has `length` bytes. */
+struct circuit {
+  uint32_t m, n, k;
+  size_t length;
+  uint8_t a[LOMVUZE_ENTRIES_BYTES(2)], b[LOMVUZE_ENTRIES_BYTES(2)], c[LOMVUZE_ENTRIES_BYTES(2)];
+};
+
+/* An entry's bytes: a row and a column below 256, and the value 1. */
+#define ENTRY(row, column) row, 0, 0, 0, column, 0, 0, 0, 1, 0, 0, 0
+
+/* w0 * w1 = x0. The columns are x0, w0 and w1. */
+extern const struct circuit product;
+
+/* A claim in numbers. */
+struct claim {
+  uint32_t e, r, x[MOST_N], w[MOST_K];
+};
+
+/* 2 * 3 = 6, 3 * 7 = 21 and 4 * 5 = 21 with e = 0. */
+extern const struct claim six, twenty_one, falsehood;
+
+/* An item and its witness, as the calls read them. */
+struct pair {
+  uint8_t item[LOMVUZE_ITEM_BYTES(MOST_M, MOST_N)];
+  uint8_t witness[LOMVUZE_WITNESS_BYTES(MOST_K)];
+};
+
+/* The item of a claim as anybody can write it: the root is that of the witness, and nothing else is tested. */
+struct pair written(const struct circuit *circuit, struct claim claim);
+
+/* For the circuit w0 * w1 = x0: an item with the same e and x that holds, and has another witness and root. */
+struct pair twin(const struct pair *pair);
+
+/* Number j of a buffer, read and written. In an item, e is number 0, r is number 1 where m = 1, and x follows. */
+uint32_t number(const uint8_t *bytes, size_t j);
+void put(uint8_t *bytes, size_t j, uint32_t value);
+
+/* Puts the root of a pair's witness into its item. */
+void put_root(const struct circuit *circuit, struct pair *pair);
+
+/* ---- Answers */
+
+enum call { CAST, FOLD, VERIFY, DECIDE, CALLS };
+
+/*
+ * At how many challenges every call that the clearing house ran answered 0, at how many it must be so, and how often a call gave an answer that
+ * is not 0. Casting and folding are the registrar's calls: where they refuse, the rest is done by hand.
+ */
+struct tally {
+  uint32_t accepted, expected;
+  uint32_t refused[CALLS][LOMVUZE_CLAIM + 1];
+};
+
+/* For calls that no run expects to refuse: ends the program where one does. */
+void need(const char *call, uint32_t answer);
+
+/* Counts an answer; whether it is 0. */
+bool answered(struct tally *tally, enum call call, uint32_t answer);
+
+/* ---- What the clearing house picks. Anybody can foretell these numbers: they let every run print the same, and are not for a service. */
+
+struct picker {
+  uint32_t challenges, positions;
+};
+
+/* Where each run starts. */
+#define FIRST_PICKS {1, 2}
+
+uint32_t pick_challenge(struct picker *picker);
+
+/* ---- Folds of two items */
+
+struct fold {
+  const struct circuit *circuit;
+  uint8_t items[LOMVUZE_ITEMS_BYTES(MOST_M, MOST_N, FOLDED)];
+  uint8_t witnesses[LOMVUZE_WITNESSES_BYTES(MOST_K, FOLDED)];
+  uint8_t quotient[LOMVUZE_QUOTIENT_BYTES(MOST_M, FOLDED)];
+  uint32_t challenge;
+  struct pair out;
+  uint32_t t, positions[MOST_K];
+};
+
+/* Two items to fold, with a quotient whose coefficient of X^0 is given and whose others are 0. */
+struct fold fold_of(const struct circuit *circuit, struct pair first, struct pair second, uint32_t quotient);
+
+/* k different positions. */
+void pick_positions(struct fold *fold, struct picker *picker);
+
+/* New item and witness at the fold's challenge, for whatever quotient is there: what verify tests, and not that the items hold. */
+void fold_by_hand(struct fold *fold);
+
+/* The calls. Each counts its answer and says whether it is 0; `verify` opens the three witnesses first. */
+bool cast(const struct circuit *circuit, struct claim claim, struct pair *pair, struct tally *tally);
+bool fold(struct fold *fold, struct tally *tally);
+bool verify(const struct fold *fold, struct tally *tally);
+bool decide(const struct circuit *circuit, const struct pair *pair, struct tally *tally);
+
+/* Folds at each challenge, by hand where the call refuses, verifies the fold and decides the new item. */
+void run_chains(struct fold *f, struct tally *tally);
+
+/* ---- The runs: without the obligation kept, and with it */
+
+typedef void run(struct tally *without, struct tally *with);
+
+run e_of_a_fold, r_of_the_registrar, r_known_before;
+run challenge_known_before;
+run position_known_before, position_twice, position_too_few;
+run other_item_decided, other_circuit, other_sizes;
+run not_decided, not_verified;
+run other_item_above, lower_not_verified;
+
+#endif

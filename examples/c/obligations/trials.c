@@ -1,0 +1,66 @@
+/* The list of runs, in words. */
+#include "trials.h"
+
+const struct obligation obligations[OBLIGATIONS] = {
+    {"1 e is 0", "A fresh statement has e = 0."},
+    {"2 r", "r is picked after x and root are fixed, and not by the registrar."},
+    {"3 challenge", "The challenge is picked after items and quotient are fixed, and not by the registrar."},
+    {"4 positions", "At least k different positions, picked after items, quotient and new item are fixed, and not by the registrar."},
+    {"5 same bytes", "Verify and decide get the same new item and the same sizes, and decide gets the agreed circuit."},
+    {"6 both answers", "The answers of verify and of decide are both 0."},
+    {"7 second layer", "What is folded again is, byte by byte, the new item of a fold that was verified."},
+};
+
+const struct trial trials[TRIALS] = {
+    {1, e_of_a_fold, "4 × 5 = 21 is handed in with e = p - 1", "e = 0",
+     "The circuit says w0 × w1 = x0. The value of 4 × 5 = 21 is 20 - 21 = p - 1. With e = p - 1 the item holds, so\n"
+     "fold takes it with 2 × 3 = 6, and the rest follows.",
+     "The clearing house takes no item whose e is not 0. With e = 0 fold refuses. The registrar folds by hand and\n"
+     "keeps the quotient from before: that passes verify, and decide refuses."},
+    {2, r_of_the_registrar, "row 1 is false, and the registrar picks r = 0", "r = 7",
+     "Row 0 says 2 × 3 = 6, row 1 says 2 × 2 = 5. Their weights are 1 - r and r. With r = 0 row 1 does not count,\n"
+     "so cast takes the claim, and the rest follows.",
+     "With r = 7 cast refuses. The registrar writes the item and folds by hand: decide refuses."},
+    {2, r_known_before, "both rows are false, and r = 7 is known before x is fixed", "r = 11",
+     "With r = 7 the weights are -6 and 7. The registrar picks x such that row 0 is wrong by 7 and row 1 by 6: the\n"
+     "value is -6 × 7 + 7 × 6 = 0, so cast takes the claim.",
+     "With r = 11, picked when x and root are fixed, the value is -10 × 7 + 11 × 6 = -4."},
+    {3, challenge_known_before, "the quotient is made for a challenge that is known", "another challenge",
+     "2 × 3 = 6 and 4 × 5 = 21, both with e = 0. Fold would refuse. The registrar folds by hand, with the quotient\n"
+     "with which the new item holds at the known challenge. Each of the challenges has its own quotient.",
+     "The clearing house picks another challenge once the quotient is fixed. The fold passes verify, and decide\n"
+     "refuses. One quotient can pass at (l - 1)(m + 2) = 2 challenges at most."},
+    {4, position_known_before, "one position, known before the new item is fixed", "two different ones",
+     "k = 2. The items are the same, and the quotient is fixed before the challenge. The registrar changes the new\n"
+     "witness in a way that the known position does not show, such that the new item holds. By how much is a\n"
+     "quadratic equation modulo p, which has a solution at about every second challenge.",
+     "Witnesses of two numbers whose codewords agree at two different positions are equal: verify refuses the\n"
+     "changed one. Where there is no solution the new witness is the combination, and decide refuses."},
+    {4, position_twice, "the same position twice, known before", "two different ones",
+     "As before: t = 2 is k, but the positions are not different.", "As before."},
+    {4, position_too_few, "one position, picked after", "two different ones",
+     "As before, but the registrar has to guess the position. There are 4k = 8.", "As before."},
+    {5, other_item_decided, "another item is decided, with e and x of the verified one", "the same item",
+     "2 × 3 = 6 and 4 × 5 = 21, folded by hand: that passes verify. The item that is decided has e and x of the new\n"
+     "item, but a root and a witness of its own, with which it holds.",
+     "The new item that was verified is decided."},
+    {5, other_circuit, "the circuit comes from the registrar", "the agreed circuit",
+     "The same items. The registrar's circuit has no entries: it says 0 = 0 of every item.", "Decided with w0 × w1 = x0."},
+    {5, other_sizes, "decide's sizes come from the registrar", "the agreed sizes",
+     "The circuit says w0 × w1 = x1, and x0 is 1 in every statement: m = 0, n = 2. With m = 1, n = 1 an item has as\n"
+     "many bytes, and x0 is read as r. With r = 1 row 0 has the weight 0.",
+     "Decided with m = 0, n = 2."},
+    {6, not_decided, "the fold of 4 × 5 = 21 is verified only", "decided too",
+     "2 × 3 = 6 and 4 × 5 = 21, folded by hand. Verify sees no circuit and no witness.", "Decide refuses the new item."},
+    {6, not_verified, "the new item is decided only", "verified too",
+     "The new item has the e and x that the fold of 2 × 3 = 6 and 4 × 5 = 21 gives. Its witness is one with which it\n"
+     "holds, and not the combination.",
+     "Verify refuses: the opened values are not the combination."},
+    {7, other_item_above, "another item is folded again, with e and x of the verified one", "the same item",
+     "The fold of 2 × 3 = 6 and 4 × 5 = 21 passes verify. Its new item is not decided. Above, an item with e and x\n"
+     "of the new item, but a root of its own, is folded with 3 × 7 = 21. It holds, so all calls above answer 0.",
+     "The clearing house compares the bytes, and takes the new item alone. Fold refuses it. Folded by hand it\n"
+     "passes verify, and decide refuses."},
+    {7, lower_not_verified, "the lower fold is not verified", "verified too",
+     "The lower fold's new item is that other item, and is folded with 3 × 7 = 21.", "Verify refuses the lower fold."},
+};

@@ -1,0 +1,128 @@
+/* Obligations 5 to 7: which bytes verify and decide get, and what is folded again. */
+#include <string.h>
+
+#include "obligations.h"
+
+/* 2 * 3 = 6 and 4 * 5 = 21, folded by hand at the next challenge with the quotient that is there, and opened at k different positions. */
+static void fold_next(struct fold *f, struct picker *house) {
+  f->challenge = pick_challenge(house);
+  fold_by_hand(f);
+  pick_positions(f, house);
+}
+
+/* Adds to the challenges at which every answer was 0. */
+static void count(struct tally *tally, bool verified, bool decided) {
+  if (verified && decided) tally->accepted++;
+}
+
+static struct fold false_fold(uint32_t quotient) {
+  return fold_of(&product, written(&product, six), written(&product, falsehood), quotient);
+}
+
+/* 5. The item that is decided has e and x of the one that is verified, and another root. */
+void other_item_decided(struct tally *without, struct tally *with) {
+  struct fold f = false_fold(4);
+  struct picker house = FIRST_PICKS;
+  for (int i = 0; i < CHALLENGES; i++) {
+    fold_next(&f, &house);
+    struct pair other = twin(&f.out);
+    count(without, verify(&f, without), decide(&product, &other, without));
+    count(with, verify(&f, with), decide(&product, &f.out, with));
+  }
+}
+
+/* 5. A circuit without entries says 0 = 0 of every item. The quotient is 0, so that the new item has e = 0. */
+void other_circuit(struct tally *without, struct tally *with) {
+  const struct circuit nothing = {.m = 0, .n = 1, .k = 2, .length = 0};
+  struct fold f = false_fold(0);
+  struct picker house = FIRST_PICKS;
+  for (int i = 0; i < CHALLENGES; i++) {
+    fold_next(&f, &house);
+    count(without, verify(&f, without), decide(&nothing, &f.out, without));
+    count(with, verify(&f, with), decide(&product, &f.out, with));
+  }
+}
+
+/*
+ * 5. w0 * w1 = x1, and x0 is 1 in every statement. An item has as many bytes for m = 0, n = 2 as for m = 1, n = 1; then x0 is read as r, and with
+ * r = 1 row 0 has the weight 0.
+ */
+static const struct circuit with_one = {0, 2, 4, LOMVUZE_ENTRIES_BYTES(1), {ENTRY(0, 2)}, {ENTRY(0, 3)}, {ENTRY(0, 1)}};
+
+void other_sizes(struct tally *without, struct tally *with) {
+  struct circuit resized = with_one;
+  resized.m = 1;
+  resized.n = 1;
+  struct claim honest = {.x = {1, 6}, .w = {2, 3}}, bad = {.x = {1, 21}, .w = {4, 5}};
+  struct fold f = fold_of(&with_one, written(&with_one, honest), written(&with_one, bad), 0);
+  struct picker house = FIRST_PICKS;
+  for (int i = 0; i < CHALLENGES; i++) {
+    fold_next(&f, &house);
+    count(without, verify(&f, without), decide(&resized, &f.out, without));
+    count(with, verify(&f, with), decide(&with_one, &f.out, with));
+  }
+}
+
+/* 6. Verify sees no circuit and no witness. */
+void not_decided(struct tally *without, struct tally *with) {
+  struct fold f = false_fold(4);
+  struct picker house = FIRST_PICKS;
+  for (int i = 0; i < CHALLENGES; i++) {
+    fold_next(&f, &house);
+    count(without, verify(&f, without), true);
+    count(with, verify(&f, with), decide(&product, &f.out, with));
+  }
+}
+
+/* 6. Decide sees one item. It has the e and x of the fold, and a witness that is no combination. */
+void not_verified(struct tally *without, struct tally *with) {
+  struct fold f = false_fold(4);
+  struct picker house = FIRST_PICKS;
+  for (int i = 0; i < CHALLENGES; i++) {
+    fold_next(&f, &house);
+    f.out = twin(&f.out);
+    count(without, true, decide(&product, &f.out, without));
+    count(with, verify(&f, with), decide(&product, &f.out, with));
+  }
+}
+
+/* Folds an item with 3 * 7 = 21 at the next challenge, by hand where the call refuses, verifies the fold and decides the new item. */
+static bool fold_above(struct pair item, struct picker *house, struct tally *tally) {
+  struct fold above = fold_of(&product, item, written(&product, twenty_one), 4);
+  above.challenge = pick_challenge(house);
+  if (!fold(&above, tally)) fold_by_hand(&above);
+  pick_positions(&above, house);
+  bool verified = verify(&above, tally), decided = decide(&product, &above.out, tally);
+  return verified && decided;
+}
+
+/* The test of obligation 7, for the sizes of w0 * w1 = x0. */
+static bool same_bytes(const struct pair *above, const struct pair *verified) {
+  return memcmp(above->item, verified->item, LOMVUZE_ITEM_BYTES(product.m, product.n)) == 0;
+}
+
+/* 7. The lower fold is verified. Above stands an item with e and x of its new item, and another root. */
+void other_item_above(struct tally *without, struct tally *with) {
+  struct fold f = false_fold(4);
+  struct picker house = FIRST_PICKS;
+  for (int i = 0; i < CHALLENGES; i++) {
+    fold_next(&f, &house);
+    struct pair above = twin(&f.out);
+    count(without, verify(&f, without), fold_above(above, &house, without));
+    /* The item is not taken, and the new item itself is folded. */
+    if (!same_bytes(&above, &f.out)) above = f.out;
+    count(with, verify(&f, with), fold_above(above, &house, with));
+  }
+}
+
+/* 7. The lower fold's new item is no combination of its items, and nobody verifies it. */
+void lower_not_verified(struct tally *without, struct tally *with) {
+  struct fold f = false_fold(4);
+  struct picker house = FIRST_PICKS;
+  for (int i = 0; i < CHALLENGES; i++) {
+    fold_next(&f, &house);
+    f.out = twin(&f.out);
+    count(without, true, fold_above(f.out, &house, without));
+    count(with, verify(&f, with), fold_above(f.out, &house, with));
+  }
+}

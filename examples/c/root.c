@@ -1,0 +1,47 @@
+/*
+ * Prints the root of a witness as 64 hexadecimal digits, as an `item` line of a sheet has it.
+ *
+ *   root NUMBER...
+ *
+ * The numbers are those of the witness, k of them: 2, 4, 8, 16, 32 or 64. Exit status: 0 where the root is printed, 1 where lomvuze_encode refuses,
+ * 2 where an argument is no number from 0 to 4294967295 or there are none or over 64.
+ */
+#include <inttypes.h>
+#include <stdbool.h>
+#include <stdio.h>
+
+#include "lomvuze.h"
+
+/* Reads a decimal number of digits alone, and puts it into four bytes. */
+static bool put(const char *text, uint8_t *bytes) {
+  uint64_t value = 0;
+  if (*text == '\0') return false;
+  for (; *text != '\0'; text++) {
+    if (*text < '0' || *text > '9') return false;
+    value = 10 * value + (uint64_t)(*text - '0');
+    if (value > UINT32_MAX) return false;
+  }
+  for (int i = 0; i < 4; i++) bytes[i] = (uint8_t)(value >> 8 * i);
+  return true;
+}
+
+int main(int argc, char **argv) {
+  uint8_t witness[LOMVUZE_WITNESS_BYTES(LOMVUZE_MAX_K)];
+  uint8_t codeword[LOMVUZE_CODEWORD_BYTES(LOMVUZE_MAX_K)];
+  uint8_t root[LOMVUZE_DIGEST_BYTES];
+  bool numbers = argc > 1 && argc - 1 <= LOMVUZE_MAX_K;
+  for (int i = 1; numbers && i < argc; i++) numbers = put(argv[i], witness + (size_t)(i - 1) * LOMVUZE_NUMBER_BYTES);
+  if (!numbers) {
+    fprintf(stderr, "usage: root NUMBER... (the witness: 2, 4, 8, 16, 32 or 64 numbers)\n");
+    return 2;
+  }
+  uint32_t k = (uint32_t)(argc - 1);
+  uint32_t answer = lomvuze_encode(k, witness, LOMVUZE_WITNESS_BYTES(k), codeword, LOMVUZE_CODEWORD_BYTES(k), root, sizeof root);
+  if (answer != LOMVUZE_ACCEPTED) {
+    fprintf(stderr, "refused %" PRIu32 ": %s\n", answer, lomvuze_strerror(answer));
+    return 1;
+  }
+  for (size_t i = 0; i < sizeof root; i++) printf("%02x", root[i]);
+  printf("\n");
+  return 0;
+}

@@ -1,0 +1,161 @@
+//! The calls whose answers are worked out: honest ones, and such at the edges of the checks.
+
+use crate::calls::Call;
+use crate::codes;
+use crate::instance::{self, element_bytes, entry_bytes, item_bytes, Instance};
+use lomvuze_reference::claims::{self, Item};
+use lomvuze_reference::code;
+use lomvuze_reference::field::P;
+use lomvuze_samples::{bytes, put, Chain, Honest, Random, REFERENCE};
+
+/// An honest list of small sizes, and its instance.
+fn honest_list(random: &mut Random) -> (Honest, Instance) {
+    let (m, n, k, l) = (random.below(2), 1, 2, 1 + random.below(2));
+    let instance = Instance::random(random, m, n, k, l);
+    let list = Honest {
+        m: m as u32,
+        n: n as u32,
+        k: k as u32,
+        l: l as u32,
+        a: entry_bytes(&instance.circuit.a),
+        b: entry_bytes(&instance.circuit.b),
+        c: entry_bytes(&instance.circuit.c),
+        items: instance.items.iter().flat_map(item_bytes).collect(),
+        witnesses: instance.witnesses.iter().flat_map(|w| element_bytes(w)).collect(),
+    };
+    (list, instance)
+}
+
+/// The eight calls for an honest list of small sizes.
+pub fn honest_calls(random: &mut Random) -> Vec<Call> {
+    let (list, instance) = honest_list(random);
+    let challenge = list.l + random.below(5) as u32;
+    let positions = [random.below(4 * list.k as usize) as u32];
+    let t = positions.len() as u32;
+    let chain = Chain::new(&REFERENCE, &list, challenge, &positions);
+
+    let (m, n, k, l) = (list.m, list.n, list.k, list.l);
+    let interleaving = interleaving(random, &list);
+    let matrices = [list.a.clone(), list.b.clone(), list.c.clone()];
+    let (item, w) = (&instance.items[0], list.witnesses[..list.witness_length()].to_vec());
+    let (r, x) = (element_bytes(&item.r), element_bytes(&item.x));
+    let lists = [&matrices[..], &[list.items.clone(), list.witnesses.clone()]].concat();
+    let shown =
+        vec![list.items.clone(), chain.positions, chain.quotient, chain.new_item.clone(), chain.openings];
+    // Reads the first buffers, and writes others of these lengths.
+    let mut call = |name, numbers: &[u32], mut buffers: Vec<Vec<u8>>, lengths: &[usize], outputs| {
+        buffers.extend(lengths.iter().map(|length| random.bytes(*length)));
+        Call { name, numbers: numbers.to_vec(), buffers, outputs }
+    };
+    let (new, item, wit) = (list.quotient_length(), list.item_length(), list.witness_length());
+    vec![
+        call("encode", &[k], vec![w.clone()], &[16 * k as usize, 32], &["code", "root"]),
+        call("cast", &[m, n, k], [&matrices[..], &[r, x, w.clone()]].concat(), &[item], &["item"]),
+        call("quotient", &[m, n, k, l], lists.clone(), &[new], &["quotient"]),
+        call("fold", &[m, n, k, l, challenge], lists, &[new, item, wit], &["quotient", "item", "wit"]),
+        call(
+            "«open»",
+            &[k, t],
+            vec![w, bytes(&positions)],
+            &[t as usize * list.opening_length()],
+            &["openings"],
+        ),
+        interleaving,
+        call("verify", &[m, n, k, l, t, challenge], shown, &[], &[]),
+        call("decide", &[m, n, k], [&matrices[..], &[chain.new_item, chain.new_witness]].concat(), &[], &[]),
+    ]
+}
+
+/// Openings of any bytes, at one or two positions.
+fn interleaving(random: &mut Random, list: &Honest) -> Call {
+    let t = 1 + random.below(2);
+    let length = t * (list.l as usize + 1) * list.opening_length();
+    Call {
+        name: "interleave",
+        numbers: vec![list.k, list.l, t as u32],
+        buffers: vec![random.bytes(length), random.bytes(length)],
+        outputs: &["openings"],
+    }
+}
+
+/// Encoding and deciding for the one witness: items of its own root that hold, that do not, and of other roots.
+pub fn worked_out(random: &mut Random) -> Vec<Call> {
+    let w = codes::witness();
+    let k = w.len() as u32;
+    let wit = element_bytes(&w);
+    let mut all = vec![Call {
+        name: "encode",
+        numbers: vec![k],
+        buffers: vec![wit.clone(), random.bytes(16 * k as usize), random.bytes(32)],
+        outputs: &["code", "root"],
+    }];
+    for i in 0..12 {
+        let (m, n) = (random.below(3), 1 + random.below(2));
+        let matrices = instance::circuit(random, m, n + w.len());
+        let (r, x) = (random.elements(m), random.elements(n));
+        let mut item = Item { e: claims::value(&matrices, &r, &x, &w), r, x, root: code::root(&w) };
+        if i % 3 == 1 {
+            item.e = random.element();
+        }
+        if i % 3 == 2 {
+            item.root[random.below(32)] ^= 1;
+        }
+        all.push(Call {
+            name: "decide",
+            numbers: vec![m as u32, n as u32, k],
+            buffers: vec![
+                entry_bytes(&matrices.a),
+                entry_bytes(&matrices.b),
+                entry_bytes(&matrices.c),
+                item_bytes(&item),
+                wit.clone(),
+            ],
+            outputs: &[],
+        });
+    }
+    all
+}
+
+/// Calls with one number at an edge: on either side of what a check permits.
+pub fn edges(random: &mut Random) -> Vec<Call> {
+    let mut all = vec![];
+    for call in honest_calls(random) {
+        let n = &call.numbers;
+        let (k, l, rows) = match call.name {
+            "encode" | "«open»" | "interleave" => (n[0], 1, 1),
+            "fold" | "verify" => (n[2], n[3], 1 << n[0]),
+            _ => (n[2], 1, 1 << n[0]),
+        };
+        if let "fold" | "verify" = call.name {
+            for challenge in [l - 1, l, P - 1, P] {
+                let mut edge = call.clone();
+                *edge.numbers.last_mut().unwrap() = challenge;
+                all.push(edge);
+            }
+        }
+        let circuit = matches!(call.name, "cast" | "quotient" | "fold" | "decide");
+        for i in 0..call.buffers.len() - call.outputs.len() {
+            let last = call.buffers[i].len().saturating_sub(12);
+            let numbers = match (circuit && i < 3, call.name, i) {
+                (true, _, _) => vec![
+                    (last, rows - 1),
+                    (last, rows),
+                    (last + 4, n[1] + k - 1),
+                    (last + 4, n[1] + k),
+                    (last + 8, P - 1),
+                    (last + 8, P),
+                ],
+                (_, "«open»" | "verify", 1) => vec![(0, 4 * k - 1), (0, 4 * k)],
+                _ => vec![(0, P - 1), (0, P)],
+            };
+            for (at, number) in numbers {
+                let mut edge = call.clone();
+                if at + 4 <= edge.buffers[i].len() {
+                    put(&mut edge.buffers[i], at, number);
+                    all.push(edge);
+                }
+            }
+        }
+    }
+    all
+}

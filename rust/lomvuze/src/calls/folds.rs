@@ -1,0 +1,186 @@
+//! Folds of items: made and verified.
+
+use super::count;
+use super::witnesses::in_order;
+use crate::buffers::{circuit_buffers, items_buffer, numbers_buffer, output, witnesses_buffer};
+use crate::refusal::accepted;
+use crate::{Challenge, Circuit, Folded, Item, Opening, Positions, Quotient, Refusal, Sizes, Witness, MAX_L};
+use lomvuze_verdicts as library;
+use std::slice::from_ref;
+
+/// A buffer for the quotient of so many items.
+fn quotient_output(sizes: Sizes, l: usize) -> Vec<u8> {
+    output(sizes, |sizes| sizes.quotient_bytes(l.min(MAX_L)))
+}
+
+/// The quotient of up to 8 items, each with its witness at the same place. [`fold`] gives it too; here it is there
+/// before a challenge is picked.
+///
+/// # Errors
+///
+/// The first of these checks that fails:
+/// - [`Refusal::Sizes`], also where there are not as many witnesses as items
+/// - [`Refusal::Element`]
+/// - [`Refusal::Circuit`]
+/// - [`Refusal::Root`]
+/// - [`Refusal::Claim`]
+///
+/// # Example
+///
+/// ```
+/// use lomvuze::{cast, quotient, Circuit, PublicInputs, Refusal, Sizes, Witness, R};
+///
+/// fn main() -> Result<(), Refusal> {
+///     // One row: w0 × w1 = x0.
+///     let sizes = Sizes { m: 0, n: 1, k: 2 };
+///     let circuit = Circuit::new([(0, 1, 1)], [(0, 2, 1)], [(0, 0, 1)]);
+///     let mut witnesses = [Witness::from([2, 3]), Witness::from([4, 5])];
+///     let items = [
+///         cast(sizes, &circuit, &R::default(), &PublicInputs::from([6]), &witnesses[0])?,
+///         cast(sizes, &circuit, &R::default(), &PublicInputs::from([20]), &witnesses[1])?,
+///     ];
+///     assert_eq!(quotient(sizes, &circuit, &items, &witnesses)?, [4]);
+///     assert_eq!(quotient(sizes, &circuit, &items[..1], &witnesses[..1])?, []);
+///
+///     witnesses.reverse();
+///     assert_eq!(quotient(sizes, &circuit, &items, &witnesses), Err(Refusal::Root));
+///     Ok(())
+/// }
+/// ```
+pub fn quotient(
+    sizes: Sizes,
+    circuit: &Circuit,
+    items: &[Item],
+    witnesses: &[Witness],
+) -> Result<Quotient, Refusal> {
+    let Sizes { m, n, k } = sizes;
+    let [a, b, c] = circuit_buffers(circuit);
+    let (l, packed, wits) = (count(items), items_buffer(sizes, items), witnesses_buffer(sizes, witnesses));
+    let mut quotient = quotient_output(sizes, items.len());
+    accepted(library::quotient(m, n, k, l, &a, &b, &c, &packed, &wits, &mut quotient))?;
+    Quotient::from_bytes(&quotient)
+}
+
+/// Folds up to 8 items, each with its witness at the same place, at a challenge: their quotient, the new item
+/// and the new witness.
+///
+/// The challenge, l to p − 1, is picked once items and [`quotient`] are fixed, and not by whoever made them.
+///
+/// # Errors
+///
+/// The first of these checks that fails:
+/// - [`Refusal::Sizes`], also where there are not as many witnesses as items
+/// - [`Refusal::Element`]
+/// - [`Refusal::Circuit`]
+/// - [`Refusal::Challenge`]
+/// - [`Refusal::Root`]
+/// - [`Refusal::Claim`]
+///
+/// # Example
+///
+/// ```
+/// use lomvuze::{cast, fold, Challenge, Circuit, PublicInputs, Refusal, Sizes, Witness, R};
+///
+/// fn main() -> Result<(), Refusal> {
+///     // One row: w0 × w1 = x0.
+///     let sizes = Sizes { m: 0, n: 1, k: 2 };
+///     let circuit = Circuit::new([(0, 1, 1)], [(0, 2, 1)], [(0, 0, 1)]);
+///     let witnesses = [Witness::from([2, 3]), Witness::from([4, 5])];
+///     let items = [
+///         cast(sizes, &circuit, &R::default(), &PublicInputs::from([6]), &witnesses[0])?,
+///         cast(sizes, &circuit, &R::default(), &PublicInputs::from([20]), &witnesses[1])?,
+///     ];
+///     let folded = fold(sizes, Challenge::from(3), &circuit, &items, &witnesses)?;
+///     assert_eq!(folded.quotient, [4]);
+///     assert_eq!(folded.item.e, 24);
+///     assert_eq!(folded.item.x, [48]);
+///     assert_eq!(folded.witness, [8, 9]);
+///
+///     let at_a_node = fold(sizes, Challenge::from(1), &circuit, &items, &witnesses);
+///     assert_eq!(at_a_node, Err(Refusal::Challenge));
+///     Ok(())
+/// }
+/// ```
+pub fn fold(
+    sizes: Sizes,
+    challenge: Challenge,
+    circuit: &Circuit,
+    items: &[Item],
+    witnesses: &[Witness],
+) -> Result<Folded, Refusal> {
+    let Sizes { m, n, k } = sizes;
+    let [a, b, c] = circuit_buffers(circuit);
+    let (l, packed, wits) = (count(items), items_buffer(sizes, items), witnesses_buffer(sizes, witnesses));
+    let mut quotient = quotient_output(sizes, items.len());
+    let (mut item, mut wit) = (output(sizes, Sizes::item_bytes), output(sizes, Sizes::witness_bytes));
+    let (to_quotient, to_item, to_wit) = (&mut quotient, &mut item, &mut wit);
+    let at = challenge.into();
+    accepted(library::fold(m, n, k, l, at, &a, &b, &c, &packed, &wits, to_quotient, to_item, to_wit))?;
+    Ok(Folded {
+        quotient: Quotient::from_bytes(&quotient)?,
+        item: Item::from_bytes(sizes, &item)?,
+        witness: Witness::from_bytes(&wit)?,
+    })
+}
+
+/// Verifies a fold of up to 8 items. It sees neither circuit nor witness: only together with
+/// [`decide`](crate::decide) of the same new item it is a verdict.
+///
+/// `openings` has, for each item and last for the new item, what [`open`](crate::open) returned for its witness at
+/// the positions.
+///
+/// # Errors
+///
+/// The first of these checks that fails:
+/// - [`Refusal::Sizes`], also where there are not openings of each item and the new one at each position
+/// - [`Refusal::Element`]
+/// - [`Refusal::Challenge`]
+/// - [`Refusal::Position`]
+/// - [`Refusal::NewItem`]
+/// - [`Refusal::Opening`]
+/// - [`Refusal::Combination`]
+///
+/// # Example
+///
+/// ```
+/// use lomvuze::{cast, fold, open, verify};
+/// use lomvuze::{Challenge, Circuit, Folded, Positions, PublicInputs, Refusal, Sizes, Witness, R};
+///
+/// fn main() -> Result<(), Refusal> {
+///     // One row: w0 × w1 = x0.
+///     let sizes = Sizes { m: 0, n: 1, k: 2 };
+///     let circuit = Circuit::new([(0, 1, 1)], [(0, 2, 1)], [(0, 0, 1)]);
+///     let witness = Witness::from([2, 3]);
+///     let items = [cast(sizes, &circuit, &R::default(), &PublicInputs::from([6]), &witness)?];
+///
+///     let challenge = Challenge::from(2);
+///     let Folded { quotient, item, witness: new_witness, .. } =
+///         fold(sizes, challenge, &circuit, &items, std::slice::from_ref(&witness))?;
+///     let positions = Positions::from([1, 5]);
+///     let mut openings =
+///         [open(2, &witness, &positions)?, open(2, &new_witness, &positions)?];
+///     verify(sizes, challenge, &items, &positions, &quotient, &item, &openings)?;
+///
+///     openings[0][1].value += 1;
+///     let changed = verify(sizes, challenge, &items, &positions, &quotient, &item, &openings);
+///     assert_eq!(changed, Err(Refusal::Opening));
+///     Ok(())
+/// }
+/// ```
+pub fn verify(
+    sizes: Sizes,
+    challenge: Challenge,
+    items: &[Item],
+    positions: &Positions,
+    quotient: &Quotient,
+    new_item: &Item,
+    openings: &[impl AsRef<[Opening]>],
+) -> Result<(), Refusal> {
+    let Sizes { m, n, k } = sizes;
+    let (l, t, at) = (count(items), count(positions), challenge.into());
+    let (items, new_item) = (items_buffer(sizes, items), items_buffer(sizes, from_ref(new_item)));
+    // Openings that cannot be put in order fail check 2 here too, as an empty buffer.
+    let openings = in_order(k, l, t, openings).unwrap_or_default();
+    let (positions, quotient) = (numbers_buffer(positions), numbers_buffer(quotient));
+    accepted(library::verify(m, n, k, l, t, at, &items, &positions, &quotient, &new_item, &openings))
+}

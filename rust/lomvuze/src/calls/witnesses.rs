@@ -1,0 +1,129 @@
+//! Codewords and openings of witnesses.
+
+use super::{count, sizes_of_witness};
+use crate::buffers::{numbers_buffer, opened_buffer, output};
+use crate::refusal::accepted;
+use crate::sizes::MOST_NUMBERS;
+use crate::{numbers_from_bytes, Encoded, Opening, Positions, Refusal, Sizes, Witness, MAX_L};
+use lomvuze_verdicts as library;
+
+/// The codeword of a witness and the root of the tree over it.
+///
+/// The codeword has at position i the sum over j of w_j × (g^i)^j, where g = 31^((p − 1) / 4k). The tree is
+/// that of RFC 6962, section 2.1, with SHA-256: a leaf is the byte 0 and a value in four bytes, an inner node
+/// the byte 1 and the digests of its two children.
+///
+/// # Errors
+///
+/// The first of these checks that fails:
+/// - [`Refusal::Sizes`], also where there are not k numbers
+/// - [`Refusal::Element`]
+///
+/// # Example
+///
+/// ```
+/// use lomvuze::{encode, Refusal, Witness, P};
+///
+/// fn main() -> Result<(), Refusal> {
+///     let encoded = encode(2, &Witness::from([2, 3]))?;
+///     assert_eq!(encoded.code.len(), 8);
+///     assert_eq!((encoded.code[0], encoded.code[4]), (5, P - 1)); // 2 + 3 and 2 - 3
+///     Ok(())
+/// }
+/// ```
+pub fn encode(k: u32, witness: &Witness) -> Result<Encoded, Refusal> {
+    let (mut code, mut root) = (output(sizes_of_witness(k), Sizes::codeword_bytes), [0; 32]);
+    accepted(library::encode(k, &numbers_buffer(witness), &mut code, &mut root))?;
+    Ok(Encoded { code: numbers_from_bytes(&code)?, root })
+}
+
+/// The openings of one witness's codeword at up to 4k positions, in the order of the positions.
+///
+/// The positions are picked once items, quotient and new item are fixed, and not by whoever made them: at least k
+/// different ones ([`Positions::count_different`]).
+///
+/// # Errors
+///
+/// The first of these checks that fails:
+/// - [`Refusal::Sizes`], also where there are not k numbers
+/// - [`Refusal::Element`]
+/// - [`Refusal::Position`]
+///
+/// # Example
+///
+/// ```
+/// use lomvuze::{encode, open, Positions, Refusal, Witness};
+///
+/// fn main() -> Result<(), Refusal> {
+///     let witness = Witness::from([2, 3]);
+///     let openings = open(2, &witness, &Positions::from([0, 7]))?;
+///     assert_eq!(openings.len(), 2);
+///     assert_eq!((openings[0].value, openings[0].path.len()), (5, 3));
+///     assert_eq!(openings[1].value, encode(2, &witness)?.code[7]);
+///
+///     assert_eq!(open(2, &witness, &Positions::from([8])), Err(Refusal::Position));
+///     Ok(())
+/// }
+/// ```
+pub fn open(k: u32, witness: &Witness, positions: &Positions) -> Result<Vec<Opening>, Refusal> {
+    let (sizes, t) = (sizes_of_witness(k), positions.len().min(MOST_NUMBERS));
+    let mut openings = output(sizes, |sizes| sizes.openings_bytes(t));
+    let (w, places) = (numbers_buffer(witness), numbers_buffer(positions));
+    accepted(library::open(k, count(positions), &w, &places, &mut openings))?;
+    parts(sizes, &openings)
+}
+
+/// The openings of l items and the new one in the order in which `lomvuze_verify` reads them in C: position by
+/// position and, within one, item by item. It is for a service that sends them there; [`verify`](crate::verify)
+/// puts them in this order itself.
+///
+/// `openings` has, for each item and last for the new item, what [`open`] returned for its witness at the
+/// positions. What the openings hold is not tested.
+///
+/// # Errors
+///
+/// [`Refusal::Sizes`], also where not all have openings at as many positions.
+///
+/// # Example
+///
+/// ```
+/// use lomvuze::{interleave, open, Positions, Refusal, Witness};
+///
+/// fn main() -> Result<(), Refusal> {
+///     let positions = Positions::from([0, 7, 4]);
+///     let item = open(2, &Witness::from([2, 3]), &positions)?;
+///     let new_item = open(2, &Witness::from([6, 7]), &positions)?;
+///
+///     let ordered = interleave(2, &[&item[..], &new_item])?;
+///     assert_eq!(ordered.len(), 6);
+///     assert_eq!([&ordered[0], &ordered[1], &ordered[2]], [&item[0], &new_item[0], &item[1]]);
+///     let bytes: Vec<u8> = ordered.iter().flat_map(|opening| opening.to_bytes()).collect();
+///     assert_eq!(bytes.len(), 6 * 100);
+///
+///     assert_eq!(interleave(2, &[&item[..], &new_item[1..]]), Err(Refusal::Sizes));
+///     Ok(())
+/// }
+/// ```
+pub fn interleave(k: u32, openings: &[impl AsRef<[Opening]>]) -> Result<Vec<Opening>, Refusal> {
+    let t = openings.first().map_or(0, |of_one| count(of_one.as_ref()));
+    parts(sizes_of_witness(k), &in_order(k, count(openings).saturating_sub(1), t, openings)?)
+}
+
+/// The openings of l items and the new one at t positions in the verifier's order, as bytes.
+pub(super) fn in_order(
+    k: u32,
+    l: u32,
+    t: u32,
+    openings: &[impl AsRef<[Opening]>],
+) -> Result<Vec<u8>, Refusal> {
+    let (sizes, items, positions) = (sizes_of_witness(k), l as usize, t as usize);
+    let opened = opened_buffer(sizes, positions, openings);
+    let mut ordered =
+        output(sizes, |sizes| sizes.all_openings_bytes(items.min(MAX_L), positions.min(MOST_NUMBERS)));
+    accepted(library::interleave(k, l, t, &opened, &mut ordered))?;
+    Ok(ordered)
+}
+
+fn parts(sizes: Sizes, openings: &[u8]) -> Result<Vec<Opening>, Refusal> {
+    openings.chunks(sizes.opening_bytes()).map(Opening::from_bytes).collect()
+}

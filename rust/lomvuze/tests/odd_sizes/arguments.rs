@@ -1,0 +1,115 @@
+//! A fold, and the calls on it.
+
+use crate::longest::longest_buffer;
+use lomvuze::{cast, decide, encode, fold, interleave, open, quotient, verify};
+use lomvuze::{
+    Challenge, Circuit, Folded, Item, Opening, Positions, PublicInputs, Refusal, Sizes, Witness, R,
+};
+
+/// A fold of two items with m = 1, n = 2, k = 4 and t = 3, with all that a call takes. The circuit has no
+/// entries, so every witness has the value 0.
+#[derive(Clone)]
+pub struct Arguments {
+    pub sizes: Sizes,
+    pub circuit: Circuit,
+    pub r: R,
+    pub x: PublicInputs,
+    pub witness: Witness,
+    pub items: Vec<Item>,
+    pub witnesses: Vec<Witness>,
+    pub positions: Positions,
+    pub folded: Folded,
+    pub openings: Vec<Vec<Opening>>,
+}
+
+impl Arguments {
+    pub fn new() -> Result<Arguments, Refusal> {
+        let sizes = Sizes { m: 1, n: 2, k: 4 };
+        let circuit = Circuit::default();
+        let witnesses = vec![Witness::from([1, 2, 3, 4]), Witness::from([5, 6, 7, 8])];
+        let (r, x) = (R::from([9]), PublicInputs::from([10, 11]));
+        let items = vec![
+            cast(sizes, &circuit, &r, &x, &witnesses[0])?,
+            cast(sizes, &circuit, &R::from([12]), &PublicInputs::from([13, 14]), &witnesses[1])?,
+        ];
+        let positions = Positions::from([0, 15, 7]);
+        let folded = fold(sizes, Challenge::from(100), &circuit, &items, &witnesses)?;
+        let opened = witnesses.iter().chain([&folded.witness]);
+        let openings = opened.map(|w| open(4, w, &positions)).collect::<Result<_, _>>()?;
+        let witness = witnesses[0].clone();
+        Ok(Arguments { sizes, circuit, r, x, witness, items, witnesses, positions, folded, openings })
+    }
+
+    pub fn encode(&self) -> Result<(), Refusal> {
+        encode(self.sizes.k, &self.witness).map(drop)
+    }
+
+    pub fn cast(&self) -> Result<(), Refusal> {
+        cast(self.sizes, &self.circuit, &self.r, &self.x, &self.witness).map(drop)
+    }
+
+    pub fn quotient(&self) -> Result<(), Refusal> {
+        quotient(self.sizes, &self.circuit, &self.items, &self.witnesses).map(drop)
+    }
+
+    pub fn fold(&self) -> Result<(), Refusal> {
+        fold(self.sizes, Challenge::from(100), &self.circuit, &self.items, &self.witnesses).map(drop)
+    }
+
+    pub fn open(&self) -> Result<(), Refusal> {
+        open(self.sizes.k, &self.witness, &self.positions).map(drop)
+    }
+
+    pub fn interleave(&self) -> Result<(), Refusal> {
+        interleave(self.sizes.k, &self.openings).map(drop)
+    }
+
+    pub fn verify(&self) -> Result<(), Refusal> {
+        let Folded { quotient, item, .. } = &self.folded;
+        verify(self.sizes, Challenge::from(100), &self.items, &self.positions, quotient, item, &self.openings)
+    }
+
+    pub fn decide(&self) -> Result<(), Refusal> {
+        decide(self.sizes, &self.circuit, &self.folded.item, &self.folded.witness)
+    }
+}
+
+pub type Call = fn(&Arguments) -> Result<(), Refusal>;
+
+pub const CALLS: [Call; 8] = [
+    Arguments::encode,
+    Arguments::cast,
+    Arguments::quotient,
+    Arguments::fold,
+    Arguments::open,
+    Arguments::interleave,
+    Arguments::verify,
+    Arguments::decide,
+];
+
+/// No call here may ask for more. Where sizes or lists are very long, a buffer for them would be longer.
+pub const MOST: usize = 256 * 1024;
+
+/// The answer of a call, which may ask for no long buffer: 0, or the number of a check.
+pub fn answer(call: impl FnOnce() -> Result<(), Refusal>) -> u32 {
+    let (longest, answer) = longest_buffer(call);
+    assert!(longest <= MOST, "{longest} bytes in one buffer");
+    answer.map_or_else(Refusal::number, |()| 0)
+}
+
+/// The answers of the eight calls after a change.
+pub fn answers(change: impl Fn(&mut Arguments)) -> [u32; 8] {
+    let mut arguments = Arguments::new().unwrap();
+    change(&mut arguments);
+    CALLS.map(|call| answer(|| call(&arguments)))
+}
+
+/// Changes a list of numbers as a vector.
+pub fn change<List: Default + From<Vec<u32>>>(list: &mut List, by: impl FnOnce(&mut Vec<u32>))
+where
+    Vec<u32>: From<List>,
+{
+    let mut numbers = Vec::from(std::mem::take(list));
+    by(&mut numbers);
+    *list = numbers.into();
+}

@@ -1,0 +1,52 @@
+//! Writes docs/READING.md on standard output: the definitions that the theorems and the exported calls rest on, copied from specs/ in
+//! reading order. It fails where a name is unknown, stands in no section, or stands behind what uses it.
+//!
+//! Usage: lomvuze-reading REPOSITORY
+
+mod free;
+mod meanings;
+mod page;
+mod rattle;
+mod reach;
+mod source;
+mod text;
+mod words;
+mod world;
+
+use reach::{Order, Reader, Root};
+use std::env;
+use world::{Target, World};
+
+/// The theorems, as file and name.
+const THEOREMS: [(&str, &str); 4] = [
+    ("theory/proofs/QuotientStated", "quotient-theorem"),
+    ("theory/proofs/FirstStatement", "first-statement"),
+    ("theory/proofs/SecondStatement", "second-statement"),
+    ("roundtrip/proofs/RoundTrip", "read-written"),
+];
+
+/// The instance that the calls and both theorems are about.
+const INSTANCE: (&str, &str) = ("theory/specs/Fp", "fp");
+pub const EXPORTS: &str = "verdicts/src/lib";
+
+fn main() -> Result<(), String> {
+    let root = env::args().nth(1).ok_or("usage: lomvuze-reading REPOSITORY")?;
+    let world = World::new(&root);
+    let order = Order::read(&world.text("docs/reading-sections.txt")?)?;
+    let mut reader = Reader::new(&world, &order);
+    let mut declared = |(key, name): (&str, &str)| -> Result<Root, String> {
+        let reached = reader.follow(vec![Target::Declared(key.into(), name.into())])?;
+        Ok(Root { name: name.to_string(), reached })
+    };
+    let instance = declared(INSTANCE)?;
+    let mut roots = THEOREMS.into_iter().map(declared).collect::<Result<Vec<_>, _>>()?;
+    let functions = rattle::exported(&world.text(&world.path(EXPORTS))?);
+    for function in &functions {
+        let reached = reader.contract(EXPORTS, function)?;
+        roots.push(Root { name: function.name.clone(), reached });
+    }
+    let meanings = meanings::Meanings::read(&world.text("docs/reading-words.txt")?)?;
+    let intro = world.text("docs/reading-intro.txt")?;
+    print!("{}", page::Page { reader: &reader, instance, roots, functions, meanings, intro }.write()?);
+    Ok(())
+}

@@ -1,0 +1,209 @@
+//! What the calls share: the checks by their numbers, and what stands in a buffer.
+//!
+//! In a buffer a number takes four bytes, lowest first; a circuit's entry is row, column and value; an item is e, r,
+//! x and root; an opening is its value and its sibling digests.
+
+use crate::claims::{self, Circuit, Entry, Item};
+use crate::code;
+use crate::field::{Element, P};
+use crate::sha256::Digest;
+use crate::tree;
+use std::ops::RangeInclusive;
+
+/// The number of the check that fails.
+pub(crate) type Refusal = u32;
+
+/// Runs a call's checks and, if all pass, its writing.
+pub(crate) fn answer(call: impl FnOnce() -> Result<(), Refusal>) -> u32 {
+    match call() {
+        Ok(()) => 0,
+        Err(number) => number,
+    }
+}
+
+pub(crate) fn check(number: u32, passes: bool) -> Result<(), Refusal> {
+    if passes {
+        Ok(())
+    } else {
+        Err(number)
+    }
+}
+
+// ---- Check 2: sizes, counts and lengths.
+
+fn within(number: u32, range: RangeInclusive<usize>) -> Result<usize, Refusal> {
+    check(2, range.contains(&(number as usize)))?;
+    Ok(number as usize)
+}
+
+pub(crate) fn length(buffer: &[u8], expected: usize) -> Result<(), Refusal> {
+    check(2, buffer.len() == expected)
+}
+
+/// m is 0 to 6.
+pub(crate) fn size_m(m: u32) -> Result<usize, Refusal> {
+    within(m, 0..=6)
+}
+
+/// n is 1 to 64.
+pub(crate) fn size_n(n: u32) -> Result<usize, Refusal> {
+    within(n, 1..=64)
+}
+
+/// k is a power of two from 2 to 64.
+pub(crate) fn size_k(k: u32) -> Result<usize, Refusal> {
+    check(2, k.is_power_of_two())?;
+    within(k, 2..=64)
+}
+
+/// l is 1 to 8.
+pub(crate) fn size_l(l: u32) -> Result<usize, Refusal> {
+    within(l, 1..=8)
+}
+
+/// t is 1 to 4k.
+pub(crate) fn size_t(t: u32, k: usize) -> Result<usize, Refusal> {
+    within(t, 1..=4 * k)
+}
+
+pub(crate) const fn item_length(m: usize, n: usize) -> usize {
+    4 + 4 * m + 4 * n + 32
+}
+
+pub(crate) fn quotient_length(m: usize, l: usize) -> usize {
+    4 * claims::quotient_count(m, l)
+}
+
+/// A value and log2(4k) digests.
+pub(crate) fn opening_length(k: usize) -> usize {
+    4 + 32 * (4 * k).ilog2() as usize
+}
+
+/// The greatest count of entries in a list.
+pub(crate) const MOST_ENTRIES: usize = 1024;
+
+/// Lists of entries of twelve bytes each.
+pub(crate) fn entry_counts(lists: [&[u8]; 3]) -> Result<(), Refusal> {
+    check(2, lists.iter().all(|list| list.len().is_multiple_of(12) && list.len() / 12 <= MOST_ENTRIES))
+}
+
+// ---- Check 3: elements.
+
+fn number(bytes: &[u8]) -> u32 {
+    u32::from_le_bytes(bytes.try_into().expect("four bytes"))
+}
+
+fn numbers(bytes: &[u8]) -> Vec<u32> {
+    bytes.chunks(4).map(number).collect()
+}
+
+pub(crate) fn element(number: u32) -> Result<Element, Refusal> {
+    Element::new(number).ok_or(3)
+}
+
+pub(crate) fn elements(bytes: &[u8]) -> Result<Vec<Element>, Refusal> {
+    numbers(bytes).into_iter().map(element).collect()
+}
+
+pub(crate) fn entries(bytes: &[u8]) -> Result<Vec<Entry>, Refusal> {
+    bytes
+        .chunks(12)
+        .map(|entry| {
+            Ok(Entry {
+                row: number(&entry[0..4]),
+                column: number(&entry[4..8]),
+                value: element(number(&entry[8..12]))?,
+            })
+        })
+        .collect()
+}
+
+pub(crate) fn circuit(a: &[u8], b: &[u8], c: &[u8]) -> Result<Circuit, Refusal> {
+    Ok(Circuit { a: entries(a)?, b: entries(b)?, c: entries(c)? })
+}
+
+pub(crate) fn item(bytes: &[u8], m: usize) -> Result<Item, Refusal> {
+    let (e_r_x, root) = bytes.split_at(bytes.len() - 32);
+    let e_r_x = elements(e_r_x)?;
+    Ok(Item {
+        e: e_r_x[0],
+        r: e_r_x[1..1 + m].to_vec(),
+        x: e_r_x[1 + m..].to_vec(),
+        root: root.try_into().expect("32 bytes"),
+    })
+}
+
+pub(crate) fn items(bytes: &[u8], m: usize, n: usize) -> Result<Vec<Item>, Refusal> {
+    bytes.chunks(item_length(m, n)).map(|bytes| item(bytes, m)).collect()
+}
+
+pub(crate) fn witnesses(bytes: &[u8], k: usize) -> Result<Vec<Vec<Element>>, Refusal> {
+    bytes.chunks(4 * k).map(elements).collect()
+}
+
+pub(crate) struct Opening {
+    pub value: Element,
+    pub path: Vec<Digest>,
+}
+
+fn opening(bytes: &[u8]) -> Result<Opening, Refusal> {
+    let (value, path) = bytes.split_at(4);
+    Ok(Opening {
+        value: element(number(value))?,
+        path: path.chunks(32).map(|digest| digest.try_into().expect("32 bytes")).collect(),
+    })
+}
+
+pub(crate) fn openings(bytes: &[u8], k: usize) -> Result<Vec<Opening>, Refusal> {
+    bytes.chunks(opening_length(k)).map(opening).collect()
+}
+
+// ---- Checks 4 to 6, 10 and 11.
+
+/// 4: every entry is inside rows and columns and in order.
+pub(crate) fn check_circuit(circuit: &Circuit, m: usize, n: usize, k: usize) -> Result<(), Refusal> {
+    check(4, circuit.is_in_order(1 << m, n + k))
+}
+
+/// 5: the challenge is not below l and below p.
+pub(crate) fn check_challenge(challenge: u32, l: usize) -> Result<Element, Refusal> {
+    check(5, l as u32 <= challenge && challenge < P)?;
+    Element::new(challenge).ok_or(5)
+}
+
+/// 6: every position is below 4k.
+pub(crate) fn check_positions(positions: &[u8], k: usize) -> Result<Vec<usize>, Refusal> {
+    let positions = numbers(positions);
+    check(6, positions.iter().all(|position| (*position as usize) < 4 * k))?;
+    Ok(positions.into_iter().map(|position| position as usize).collect())
+}
+
+/// 10: every item's root is that of its witness's codeword.
+pub(crate) fn check_roots(items: &[Item], witnesses: &[Vec<Element>]) -> Result<(), Refusal> {
+    check(10, items.iter().zip(witnesses).all(|(item, w)| claims::matches(item, w)))
+}
+
+/// 11: every item holds with its witness.
+pub(crate) fn check_claims(
+    circuit: &Circuit,
+    items: &[Item],
+    witnesses: &[Vec<Element>],
+) -> Result<(), Refusal> {
+    check(11, items.iter().zip(witnesses).all(|(item, w)| claims::holds(circuit, item, w)))
+}
+
+// ---- Writing.
+
+pub(crate) fn element_bytes(elements: &[Element]) -> Vec<u8> {
+    elements.iter().flat_map(|element| element.number().to_le_bytes()).collect()
+}
+
+pub(crate) fn item_bytes(item: &Item) -> Vec<u8> {
+    [element_bytes(&[item.e]), element_bytes(&item.r), element_bytes(&item.x), item.root.to_vec()].concat()
+}
+
+pub(crate) fn opening_bytes(codeword: &[Element], position: usize) -> Vec<u8> {
+    let entries = code::entries(codeword);
+    let path = tree::path(position, &entries);
+    [entries[position].to_vec(), path.concat()].concat()
+}

@@ -1,0 +1,119 @@
+/*
+ * lomvuze.hpp: the whole chain over containers, two items of w0 * w1 = x0, with empty vectors whose pointer is null. What lomvuze.h writes for the
+ * same arguments is the same. Prints one line; the exit status is 1 where something fails.
+ */
+#include "lomvuze.hpp"
+
+#include <array>
+#include <cstdio>
+#include <string>
+#include <vector>
+#if __cplusplus >= 202002L
+#include <span>
+#endif
+
+using bytes = std::vector<uint8_t>;
+
+static bool failed = false;
+
+static void require(const char *what, bool holds) {
+  if (holds) return;
+  std::printf("FAILED: %s\n", what);
+  failed = true;
+}
+#define REQUIRE(condition) require(#condition, condition)
+
+/* ---- What an `in` and an `out` may be made of */
+
+static_assert(std::is_convertible<const bytes &, lomvuze::in>::value, "a constant vector is read");
+static_assert(!std::is_convertible<const bytes &, lomvuze::out>::value, "and not written");
+static_assert(std::is_convertible<bytes &, lomvuze::out>::value, "a vector is written");
+static_assert(std::is_convertible<std::array<uint8_t, 4> &, lomvuze::out>::value, "so is an array");
+static_assert(std::is_convertible<const std::string &, lomvuze::in>::value, "a string is read");
+static_assert(!std::is_convertible<std::vector<uint32_t> &, lomvuze::in>::value, "elements have one byte");
+static_assert(!std::is_convertible<const uint8_t (&)[4], lomvuze::out>::value, "a constant array is not written");
+static_assert(!std::is_convertible<const char (&)[4], lomvuze::in>::value, "a literal, with its last 0, is not read");
+static_assert(!std::is_convertible<int, lomvuze::in>::value, "nor is a number");
+
+/* ---- The chain */
+
+static bytes numbers(std::initializer_list<uint32_t> list) {
+  bytes all;
+  for (uint32_t number : list)
+    for (int i = 0; i < 4; i++) all.push_back(static_cast<uint8_t>(number >> (8 * i)));
+  return all;
+}
+
+static bytes operator+(bytes first, const bytes &second) {
+  first.insert(first.end(), second.begin(), second.end());
+  return first;
+}
+
+static void chain() {
+  const bytes a = numbers({0, 1, 1}), b = numbers({0, 2, 1}), c = numbers({0, 0, 1}), r;
+  const bytes w0 = numbers({2, 3}), w1 = numbers({4, 5}), wits = w0 + w1, positions = numbers({7, 0, 4});
+  bytes item0(LOMVUZE_ITEM_BYTES(0, 1)), item1(item0.size()), item(item0.size()), w(w0.size());
+  bytes quotient(LOMVUZE_QUOTIENT_BYTES(0, 2)), same(quotient.size());
+  REQUIRE(r.data() == nullptr);
+  REQUIRE(lomvuze::cast(0, 1, 2, a, b, c, r, numbers({6}), w0, item0) == LOMVUZE_ACCEPTED);
+  REQUIRE(lomvuze::cast(0, 1, 2, a, b, c, {}, numbers({20}), w1, item1) == LOMVUZE_ACCEPTED);
+  REQUIRE(lomvuze::cast(0, 1, 2, a, b, c, r, numbers({21}), w1, item) == LOMVUZE_CLAIM);
+  const bytes items = item0 + item1;
+  REQUIRE(lomvuze::quotient(0, 1, 2, 2, a, b, c, items, wits, same) == LOMVUZE_ACCEPTED);
+  REQUIRE(lomvuze::fold(0, 1, 2, 2, 2, a, b, c, items, wits, quotient, item, w) == LOMVUZE_ACCEPTED);
+  REQUIRE(quotient == numbers({4}) && quotient == same && w == numbers({6, 7}));
+
+  bytes opened, openings(LOMVUZE_ALL_OPENINGS_BYTES(2, 2, 3));
+  for (const bytes &witness : {w0, w1, w}) {
+    bytes one(LOMVUZE_OPENINGS_BYTES(2, 3));
+    REQUIRE(lomvuze::open(2, 3, witness, positions, one) == LOMVUZE_ACCEPTED);
+    opened = opened + one;
+  }
+  REQUIRE(lomvuze::interleave(2, 2, 3, opened, openings) == LOMVUZE_ACCEPTED);
+  REQUIRE(lomvuze::verify(0, 1, 2, 2, 3, 2, items, positions, quotient, item, openings) == LOMVUZE_ACCEPTED);
+  REQUIRE(lomvuze::decide(0, 1, 2, a, b, c, item, w) == LOMVUZE_ACCEPTED);
+  REQUIRE(lomvuze::decide(0, 1, 2, a, b, c, item0, w) == LOMVUZE_ROOT);
+  REQUIRE(lomvuze::decide(0, 1, 2, b, a, a, item, w) == LOMVUZE_CLAIM);
+}
+
+/* One item without a circuit: entries, r and quotient are empty, and so are the vectors' pointers null. */
+static void empty() {
+  const bytes none, x = numbers({6}), w = numbers({2, 3});
+  bytes quotient, item(LOMVUZE_ITEM_BYTES(0, 1)), new_item(item.size()), new_w(w.size());
+  REQUIRE(none.data() == nullptr && quotient.data() == nullptr);
+  REQUIRE(lomvuze::in(none).data() != nullptr && lomvuze::out(quotient).data() != nullptr);
+  REQUIRE(lomvuze::cast(0, 1, 2, none, none, none, none, x, w, item) == LOMVUZE_ACCEPTED);
+  REQUIRE(lomvuze::fold(0, 1, 2, 1, 1, none, none, none, item, w, quotient, new_item, new_w) == LOMVUZE_ACCEPTED);
+  REQUIRE(lomvuze_fold(0, 1, 2, 1, 1, LOMVUZE_EMPTY, LOMVUZE_EMPTY, LOMVUZE_EMPTY, item.data(), item.size(), w.data(), w.size(),
+                       lomvuze_out(quotient.data(), quotient.size()), quotient.size(), new_item.data(), new_item.size(), new_w.data(),
+                       new_w.size()) == LOMVUZE_ACCEPTED);
+  REQUIRE(new_item == item && new_w == w);
+}
+
+static void other_kinds() {
+  const std::array<uint8_t, 8> w = {{2, 0, 0, 0, 3, 0, 0, 0}};
+  uint8_t code[LOMVUZE_CODEWORD_BYTES(2)];
+  bytes root(LOMVUZE_DIGEST_BYTES), same(root.size());
+  REQUIRE(lomvuze::encode(2, w, code, root) == LOMVUZE_ACCEPTED);
+  REQUIRE(lomvuze::encode(2, {w.data(), 4}, code, root) == LOMVUZE_SIZE);
+  REQUIRE(lomvuze_encode(2, w.data(), w.size(), code, sizeof code, same.data(), same.size()) == LOMVUZE_ACCEPTED && root == same);
+
+  const std::string zeros(64, '0'), sheet = "size\t0\t1\t2\nitem\t0\t6\t" + zeros + "\nwit\t2\t3\nend\t1\n";
+  bytes entries[3], items(LOMVUZE_SHEET_ITEMS_BYTES), wits(LOMVUZE_SHEET_WITNESSES_BYTES);
+  for (bytes &list : entries) list.resize(LOMVUZE_SHEET_ENTRIES_BYTES);
+  uint32_t sizes[7];
+  REQUIRE(lomvuze::read_sheet(sheet, entries[0], entries[1], entries[2], items, wits, sizes) == LOMVUZE_ACCEPTED);
+  REQUIRE(sizes[2] == 2 && sizes[6] == 1 && wits[0] == 2 && wits[4] == 3);
+  REQUIRE(lomvuze::read_sheet(std::string(), {}, {}, {}, {}, {}, sizes) == LOMVUZE_SHEET);
+#if __cplusplus >= 202002L
+  REQUIRE(lomvuze::encode(2, std::span(w), std::span(code), std::span(root).first(32)) == LOMVUZE_ACCEPTED && root == same);
+#endif
+}
+
+int main() {
+  chain();
+  empty();
+  other_kinds();
+  if (!failed) std::printf("containers: the chain, empty ones and other kinds as expected\n");
+  return failed ? 1 : 0;
+}
