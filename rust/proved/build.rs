@@ -1,5 +1,5 @@
 //! Links the static library of the proved crates, `libharness.a`, from `target/staticlib` of the repository
-//! or from the folder that LOMVUZE_STATICLIB names.
+//! or from the folder that LOMVUZE_STATICLIB names. The tests find its path as LOMVUZE_HARNESS.
 
 use std::path::PathBuf;
 
@@ -14,4 +14,5 @@ fn main() {
     println!("cargo:rerun-if-changed={}", library.display());
     println!("cargo:rustc-link-search=native={}", folder.display());
     println!("cargo:rustc-link-lib=static=harness");
+    println!("cargo:rustc-env=LOMVUZE_HARNESS={}", library.display());
 }

@@ -1,6 +1,7 @@
 pub mod Laws
 pub mod Chains
 pub mod Product
+pub mod Sum
 pub mod Powers
 pub mod Tables
 pub mod SmallInverses

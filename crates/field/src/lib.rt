@@ -7,12 +7,13 @@ ghost use Rattle.field.specs.Inverses.{smallInverses};
 
 pub const P: u32 = 2013265921;
 
-// Takes p off a sum of two numbers below p, or of one below p and one up to p.
+// Takes p off a sum of two numbers below p, or of one below p and one up to p. It has no branch: `over` is 0 or 1.
 pub fn reduce(sum: u32) -> u32
     requires { ⌜ sum < 2 * p ⌝ }
     ensures { λ r. ⌜ r ≡ val (ofℕ sum) ⌝ }
 {
-    if sum < P { sum } else { sum - P }
+    let over = (P <= sum) as u32;
+    sum - over * P
 }
 
 pub fn add(a: u32, b: u32) -> u32

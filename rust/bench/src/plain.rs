@@ -74,11 +74,7 @@ pub fn mul(a: u32, b: u32) -> u32 {
 
 pub fn add(a: u32, b: u32) -> u32 {
     let sum = a + b;
-    if sum < P {
-        sum
-    } else {
-        sum - P
-    }
+    sum - (P <= sum) as u32 * P
 }
 
 #[inline(never)]

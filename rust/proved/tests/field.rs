@@ -1,7 +1,7 @@
 //! The proved field beside the reference.
 
 use lomvuze_proved as proved;
-use lomvuze_reference::field::Element;
+use lomvuze_reference::field::{Element, P};
 use lomvuze_samples::Random;
 
 /// The element that a number stands for.
@@ -9,16 +9,38 @@ fn element(number: u32) -> Element {
     Element::reduce(number as u64)
 }
 
+/// Sum, difference, opposite and product agree.
+fn compare(a: u32, b: u32) {
+    let (x, y) = (element(a), element(b));
+    assert_eq!(proved::add(a, b), (x + y).number(), "{a} + {b}");
+    assert_eq!(proved::sub(a, b), (x - y).number(), "{a} - {b}");
+    assert_eq!(proved::neg(a), (-x).number(), "-{a}");
+    assert_eq!(proved::mul(a, b), (x * y).number(), "{a} * {b}");
+}
+
 #[test]
 fn sums_differences_products() {
     let mut random = Random::new(1);
     for _ in 0..100_000 {
-        let (a, b) = (random.number(), random.number());
-        let (x, y) = (element(a), element(b));
-        assert_eq!(proved::add(a, b), (x + y).number(), "{a} + {b}");
-        assert_eq!(proved::sub(a, b), (x - y).number(), "{a} - {b}");
-        assert_eq!(proved::neg(a), (-x).number(), "-{a}");
-        assert_eq!(proved::mul(a, b), (x * y).number(), "{a} * {b}");
+        compare(random.number(), random.number());
+    }
+}
+
+/// Where p begins to be taken off: sums of p - 1, p and p + 1, and the least and greatest elements.
+#[test]
+fn sums_around_p() {
+    let mut random = Random::new(4);
+    for _ in 0..100_000 {
+        let a = random.element().number();
+        for b in [P - 1 - a, P - a, P + 1 - a] {
+            compare(a, b);
+        }
+    }
+    let edges = [0, 1, 2, P / 2, P / 2 + 1, P - 2, P - 1, P, P + 1, 2 * P - 1, 2 * P, u32::MAX];
+    for a in edges {
+        for b in edges {
+            compare(a, b);
+        }
     }
 }
 
