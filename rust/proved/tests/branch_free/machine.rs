@@ -106,8 +106,8 @@ impl Instruction {
             "lea" => {}
             _ => assert!(self.operands.iter().all(|operand| !operand.contains('[')), "memory: {self}"),
         }
-        let (to, from) = self.operands.split_at(1);
-        let (to, from) = (places(&to[0]), from.iter().fold(0, |all, operand| all | places(operand)));
+        let to = self.operands.first().map_or(0, |operand| places(operand));
+        let from = self.operands.iter().skip(1).fold(0, |all, operand| all | places(operand));
         match (name, self.operands.len()) {
             ("mov" | "movzx" | "movsx" | "movsxd" | "lea", 2) => (from, to),
             ("xor" | "sub", 2) if self.operands[0] == self.operands[1] => (0, to | FLAGS),
