@@ -1,4 +1,4 @@
-# The common commands. They need rt (the Rattle toolchain) and a C compiler; `test` and `bench` also need Rust, `fuzz` needs clang.
+# The common commands. They need rt (the Rattle toolchain) and a C compiler; `test`, `bench` and `codewords` also need Rust, `fuzz` needs clang.
 
 # The version stands in the header.
 header := include/lomvuze.h
@@ -103,6 +103,10 @@ test:
 bench: $(staticlib)/libharness.a $(staticlib)/libverdicts.a
 	cargo run --release --offline --manifest-path rust/Cargo.toml -p bench
 
+# 10,000 codewords, proved and in plain Rust. Fails where the proved transform takes more than twice as long.
+codewords: $(staticlib)/libharness.a $(staticlib)/libverdicts.a
+	cargo run --release --offline --manifest-path rust/Cargo.toml -p bench --bin codewords
+
 # The picture of the crates.
 diagram:
 	mkdir -p target
@@ -113,4 +117,4 @@ diagram:
 fuzz:
 	bash fuzz/run.sh
 
-.PHONY: all always demo compiler root claims install uninstall test bench diagram fuzz
+.PHONY: all always demo compiler root claims install uninstall test bench codewords diagram fuzz

@@ -1,6 +1,7 @@
 #!/usr/bin/env bash
 # Builds the exported calls and the layers below them as static libraries and runs the Rust tests: the independent implementation against
-# the standards' vectors and the paper's cases, the proved library against it, and the crate for Rust services, with its examples and its pages.
+# the standards' vectors and the paper's cases, the proved library against it, and the crate for Rust services, with its examples and its pages. The
+# proved transform may take at most twice as long as the same in plain Rust.
 # LOMVUZE_STATICLIB names another folder with both libraries in it; nothing is built there.
 set -euo pipefail
 cd "$(dirname "$0")/.."
@@ -9,6 +10,12 @@ if [ -z "${LOMVUZE_STATICLIB:-}" ]; then
     rt staticlib verdicts
 fi
 cargo test --release --offline --manifest-path rust/Cargo.toml
+
+# ---- 10,000 codewords: the last line says how long the proved transform takes beside plain Rust
+table=$(cargo run --quiet --release --offline --manifest-path rust/Cargo.toml -p bench --bin codewords) || { printf '%s\n' "$table"; exit 1; }
+tail -n 1 <<<"$table"
+
+# ---- The examples of the crate
 
 # Runs an example: its exit status and its output are as expected.
 runs=0

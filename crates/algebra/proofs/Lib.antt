@@ -6,6 +6,7 @@ pub mod ListLaws
 pub mod SumLaws
 pub mod PolynomialLaws
 pub mod PowerLaws
+pub mod HalvingLaws
 pub mod RootBound
 pub mod InterpolationLaws
 pub mod LagrangeLaws

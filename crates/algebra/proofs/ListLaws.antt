@@ -4,7 +4,7 @@ use mathlib.Core.Path.{_≡_, refl, sym, _∙_, ap, ap₂, subst}
 use mathlib.Core.Logic.{_≢_, ⊎-elim}
 use mathlib.Core.List.{List, [], _∷_, _++_, map, List·Memᴰ, List·Memᴰ·head, List·Memᴰ·tail, List·Memᴰ·not-nil, List·Memᴰ·cases-cons, Memᴰ·append-left, Memᴰ·append-right}
 use Prim.Native.Nat.{ℕ, zero, suc, _+_, _*_, _<_}
-use native.Mathlib.Nat.{suc-mul, zero-mul, zero-add}
+use native.Mathlib.Nat.{suc-mul, zero-mul, zero-add, suc-add}
 use native.Mathlib.Omega.{arith}
 use lib.ListN.{length, getD, length-append, List·getD-append}
 use lib.Seq.{getD-append-add}
@@ -23,6 +23,14 @@ getD-build (suc n) f (suc i) d h = getD-build n (λ j. f (suc j)) i d (omega ari
 pub build-cong : {A : Type 0} (n : ℕ) (f g : ℕ → A) → ((i : ℕ) → i < n → f i ≡ g i) → build n f ≡ build n g
 build-cong zero f g h = refl
 build-cong {A} (suc n) f g h = ap₂ {C = List A} _∷_ (h 0 (omega arith)) (build-cong n (λ i. f (suc i)) (λ i. g (suc i)) (λ i l. h (suc i) (omega arith)))
+
+-- In two parts.
+pub build-append : {A : Type 0} (m n : ℕ) (f : ℕ → A) → build (m + n) f ≡ build m f ++ build n (λ i. f (m + i))
+build-append zero n f = ap (λ (k : ℕ). build k f) (zero-add n) ∙ build-cong n f (λ i. f (0 + i)) (λ i h. ap f (sym (zero-add i)))
+build-append {A} (suc m) n f =
+    ap (λ (k : ℕ). build k f) (suc-add m n)
+    ∙ ap (λ (t : List A). f 0 ∷ t) (build-append m n (λ i. f (suc i))
+    ∙ ap (λ (t : List A). build m (λ i. f (suc i)) ++ t) (build-cong n (λ i. f (suc (m + i))) (λ i. f (suc m + i)) (λ i h. ap f (sym (suc-add m i)))))
 
 pub build-getD : {A : Type 0} (l : List A) (n : ℕ) (d : A) → length l ≡ n → build n (λ i. getD l i d) ≡ l
 build-getD [] zero d h = refl

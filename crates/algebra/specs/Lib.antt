@@ -2,6 +2,7 @@ pub mod Ring
 pub mod Lists
 pub mod Sums
 pub mod Polynomial
+pub mod Halving
 pub mod Interpolation
 pub mod Lagrange
 pub mod Vanishing

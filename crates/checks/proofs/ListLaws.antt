@@ -10,6 +10,7 @@ use Rattle.numbers.specs.Equality.{sameBytes}
 use Rattle.field.specs.BabyBear.{p}
 use Rattle.tree.specs.Layout.{part}
 use Rattle.code.specs.Points.{isWitnessCount}
+use Rattle.code.proofs.Sizes.{count-few}
 use Rattle.theory.specs.Checks.{Check, answer, every}
 use Rattle.theory.specs.Buffers.{numberAt}
 use Rattle.theory.specs.Sizes.{elementsBelow, circuitInOrder}
@@ -19,7 +20,6 @@ use Rattle.theory.proofs.Parts.{part-part}
 use Rattle.theory.proofs.Passed.{list-passes, list-below, passed-list}
 use Rattle.checks.proofs.Laws.{every-cong}
 use Rattle.checks.proofs.Members.{every-read}
-use Rattle.checks.proofs.WitnessLaws.{count-few}
 
 -- The answer r of checks 3 and 4 before others: a refusal is the answer of them all, and else the others decide.
 module _ (m n k l : ℕ) (a b c items wits : List ℕ) {r : ℕ} (rest : List Check) (e : r ≡ answer (listChecks m n k l a b c items wits)) where

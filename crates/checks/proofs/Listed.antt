@@ -10,10 +10,10 @@ use lib.Dec.{leb}
 use lib.ListN.{length}
 use Rattle.numbers.proofs.Tests.{and-left, and-right, each-true}
 use Rattle.code.specs.Points.{isWitnessCount}
+use Rattle.code.proofs.Sizes.{count-few}
 use Rattle.theory.specs.Sizes.{sizes, itemCountFits}
 use Rattle.theory.specs.Fp.{fp, itemSize, listFits}
 use Rattle.theory.proofs.Passed.{list-fits}
-use Rattle.checks.proofs.WitnessLaws.{count-few}
 
 -- ---- what the tests of sizes and counts say
 

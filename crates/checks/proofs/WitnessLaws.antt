@@ -2,9 +2,8 @@
 use mathlib.Core.Path.{_≡_, sym, ap, ap₂, _∙_}
 use mathlib.Core.Bool.{true}
 use mathlib.Core.List.{List, [], map}
-use Prim.Native.Nat.{ℕ, _*_, _^_, _≤_, _<_}
+use Prim.Native.Nat.{ℕ, _*_, _^_, _<_}
 use native.Mathlib.Omega.{arith}
-use lib.Dec.{lit≤}
 use lib.ListN.{length, getD, length-map}
 use Rattle.algebra.proofs.ListLaws.{build-cong, build-getD, map-build, getD-map}
 use Rattle.numbers.specs.Numbers.{numbers}
@@ -18,14 +17,10 @@ use Rattle.tree.specs.Entry.{entry, entries}
 use Rattle.tree.proofs.Entries.{length-entries, entry-at}
 use Rattle.code.specs.Points.{isWitnessCount, points, depth}
 use Rattle.code.specs.Codeword.{codeword}
-use Rattle.code.proofs.Sizes.{for-witness-counts, depth-leaves}
+use Rattle.code.proofs.Sizes.{depth-leaves}
 use Rattle.theory.specs.Items.{leaves}
 use Rattle.theory.specs.Fp.{sha, codewordOf, witnessRoot, elements}
 use Rattle.theory.specs.Sizes.{elementsBelow}
-
--- A witness has at most 64 numbers.
-pub count-few : (k : ℕ) → isWitnessCount k ≡ true → k ≤ 64
-count-few = for-witness-counts (λ k. k ≤ 64) (lit≤ tt) (lit≤ tt) (lit≤ tt) (lit≤ tt) (lit≤ tt) (lit≤ tt)
 
 -- The elements of a buffer of k numbers are those of its numbers.
 pub elements-numbers : (k : ℕ) (b : List ℕ) → length b ≡ 4 * k → elements k b ≡ map ofℕ (numbers b)

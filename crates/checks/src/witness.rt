@@ -16,7 +16,7 @@ pub fn codeword(k: usize, w: &[u8], out: &mut [u32])
 {
     let mut ws = [0u32; 64];
     numbers::load(w, &mut ws[..k]);
-    code::codeword(&ws[..k], out);
+    transform::codeword(&ws[..k], out);
 }
 
 // The root of the tree over the codeword of the k numbers of w.

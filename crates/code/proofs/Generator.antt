@@ -1,18 +1,18 @@
--- The generator for 64 witness numbers: its number, and the rule of a table of its powers.
+-- The generator for 64 witness numbers: its number, its power -1, and the rule of a table of its powers.
 -- Assumes nothing.
 use mathlib.Core.Path.{_≡_, refl, sym, _∙_, ap, ap₂}
 use mathlib.Core.Bool.{Bool, true, _&&_}
 use mathlib.Core.List.{List, [], _∷_, map}
-use Prim.Native.Nat.{ℕ, suc, _*_, _%_, _^_}
-use lib.Dec.{T, eqb, eqb→eq, lit<}
+use Prim.Native.Nat.{ℕ, suc, _*_, _-_, _%_, _^_}
+use lib.Dec.{T, eqb, eqb→eq, lit<, lit≤}
 use lib.Ieee.Fits.{and-l, and-r}
 use lib.ListN.{length}
 use Rattle.algebra.specs.Lists.{build}
 use Rattle.algebra.specs.Polynomial.{pow}
 use Rattle.algebra.proofs.ListLaws.{map-build}
 use Rattle.algebra.proofs.PowerLaws.{pow-mul, squarings, pow-squarings}
-use Rattle.field.specs.BabyBear.{p, babyBear, R, F, val, ofℕ, _⊗_}
-use Rattle.field.proofs.Laws.{val-inj, val-ofℕ, val-one, val-small, ofℕ-of, ofℕ-mul}
+use Rattle.field.specs.BabyBear.{p, babyBear, R, F, val, ofℕ, 𝟙, ⊝_, _⊗_}
+use Rattle.field.proofs.Laws.{val-inj, val-ofℕ, val-one, val-small, ofℕ-of, ofℕ-one, ofℕ-mul, ofℕ-neg}
 use Rattle.code.specs.Points.{generator, point, points}
 use Rattle.code.proofs.Points.{point-zero, point-suc}
 
@@ -30,6 +30,16 @@ pub generator-number : generator 64 ≡ ofℕ generatorNumber
 unfolding generator
 generator-number = pow-mul R (ofℕ 31) 15 (2 ^ 19) ∙ pow-squarings R 19 (pow R (ofℕ 31) 15)
     ∙ val-inj _ _ (generator-computed ∙ sym (val-small {n = generatorNumber} (lit< tt)))
+
+-- 128 = 2^7: seven squarings.
+turn-computed : val (squarings R 7 (ofℕ generatorNumber)) ≡ p - 1
+unfolding babyBear ofℕ val
+turn-computed = refl
+
+-- Its power 128 is -1, so that points i and i + 128 are opposites.
+pub half-turn : pow R (generator 64) 128 ≡ ⊝ 𝟙
+half-turn = ap (λ (g : F). pow R g 128) generator-number ∙ pow-squarings R 7 (ofℕ generatorNumber)
+    ∙ val-inj _ _ (turn-computed ∙ sym (val-small {n = p - 1} (lit< tt))) ∙ ofℕ-neg 1 (lit≤ tt) ∙ ap ⊝_ ofℕ-one
 
 -- ---- a table of its powers
 

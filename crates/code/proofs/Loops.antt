@@ -7,7 +7,7 @@ use lib.ListN.{length, getD, drop}
 use lib.Seq.{drop-cons, drop-length}
 use Rattle.algebra.specs.Lists.{build}
 use Rattle.algebra.specs.Polynomial.{evalPoly}
-use Rattle.algebra.proofs.ListLaws.{map-build}
+use Rattle.algebra.proofs.ListLaws.{map-build, build-getD}
 use Rattle.field.specs.BabyBear.{R, F, val, ofℕ, _⊕_, _⊗_}
 use Rattle.field.proofs.Laws.{val-zero, ofℕ-of}
 use Rattle.code.specs.Codeword.{valueAt, codeword}
@@ -38,3 +38,8 @@ upper-all w x i acc e inv = inv ∙ ap (λ (n : ℕ). val (evalPoly R (map ofℕ
 pub codeword-build : (n : ℕ) (point : ℕ → F) (w : List F) → build n (λ i. val (valueAt R w (point i))) ≡ map val (codeword R (build n point) w)
 unfolding codeword
 codeword-build n point w = sym (ap (map val) (map-build (valueAt R w) n point) ∙ map-build val n (λ i. valueAt R w (point i)))
+
+-- The same at points that are a list of numbers.
+pub codeword-given : (n : ℕ) (points : List ℕ) (w : List F) → n ≡ length points → build n (λ i. val (valueAt R w (ofℕ (getD points i 0)))) ≡ map val (codeword R (map ofℕ points) w)
+codeword-given n points w e = codeword-build n (λ i. ofℕ (getD points i 0)) w
+    ∙ ap (λ (ps : List F). map val (codeword R ps w)) (sym (map-build ofℕ n (λ i. getD points i 0)) ∙ ap (map ofℕ) (build-getD points n 0 (sym e)))

@@ -2,9 +2,9 @@
 -- Assumes nothing.
 use mathlib.Core.Path.{_≡_, refl, sym, subst}
 use mathlib.Core.Bool.{Bool, true, false, _||_}
-use Prim.Native.Nat.{ℕ, _*_, _/_, _^_, _<_}
+use Prim.Native.Nat.{ℕ, _*_, _/_, _^_, _≤_, _<_}
 use borrow.Author.Tests.{eqb-true}
-use lib.Dec.{eqb, lit<}
+use lib.Dec.{eqb, lit<, lit≤}
 use Rattle.code.specs.Points.{isWitnessCount, depth}
 
 either : {P : Type 0} (s t : Bool) → (s ≡ true → P) → (t ≡ true → P) → s || t ≡ true → P
@@ -36,6 +36,10 @@ step-positive = for-witness-counts (λ k. 0 < 64 / k) (lit< tt) (lit< tt) (lit< 
 
 pub count-positive : (k : ℕ) → isWitnessCount k ≡ true → 0 < k
 count-positive = for-witness-counts (λ k. 0 < k) (lit< tt) (lit< tt) (lit< tt) (lit< tt) (lit< tt) (lit< tt)
+
+-- A witness has at most 64 numbers.
+pub count-few : (k : ℕ) → isWitnessCount k ≡ true → k ≤ 64
+count-few = for-witness-counts (λ k. k ≤ 64) (lit≤ tt) (lit≤ tt) (lit≤ tt) (lit≤ tt) (lit≤ tt) (lit≤ tt)
 
 -- The count that is none of the first five is 64.
 pub depth-otherwise : (k : ℕ) → isWitnessCount k ≡ true → (k ≡ 2 → ⊥) → (k ≡ 4 → ⊥) → (k ≡ 8 → ⊥) → (k ≡ 16 → ⊥) → (k ≡ 32 → ⊥) → 8 ≡ depth k

@@ -6,7 +6,6 @@ use mathlib.Core.Bool.{Bool, true, false, _||_}
 use mathlib.Core.List.{List}
 use Prim.Native.Nat.{ℕ, zero, suc, _*_, _-_, _/_}
 use lib.Dec.{eqb, leb}
-use lib.ListN.{getD}
 use Rattle.algebra.specs.Lists.{build}
 use Rattle.algebra.specs.Polynomial.{pow}
 use Rattle.field.specs.BabyBear.{p, R, F, ofℕ}
@@ -26,10 +25,6 @@ point k i = pow R (generator k) i
 -- The 4k points.
 unfoldable pub points : ℕ → List F
 points k = build (4 * k) (point k)
-
--- Every step-th number of a table, from the first on: n points.
-abbrev pub taken : List ℕ → ℕ → ℕ → List F
-taken table step n = build n (λ i. ofℕ (getD table (i * step) 0))
 
 -- How often n can be halved, in at most `limit` steps, before it is 1.
 abbrev pub halvings : ℕ → ℕ → ℕ

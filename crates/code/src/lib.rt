@@ -2,11 +2,11 @@
 ghost use mathlib.Core.Path.{_≡_};
 ghost use mathlib.Core.Bool.{true};
 ghost use mathlib.Core.List.{map};
-ghost use Prim.Native.Nat.{ℕ, _*_, _<_};
+ghost use Prim.Native.Nat.{_<_};
 ghost use lib.ListN.{length};
 ghost use Rattle.field.specs.BabyBear.{R, val, ofℕ};
 ghost use Rattle.code.specs.Codeword.{valueAt, codeword};
-ghost use Rattle.code.specs.Points.{isWitnessCount, depth, points, taken};
+ghost use Rattle.code.specs.Points.{isWitnessCount, depth, points};
 ghost use Rattle.field.specs.Numbers.{Below};
 
 // The points for 64 witness numbers: the first is 1, and each is the one before times the same generator.
@@ -270,7 +270,7 @@ const POINTS: [u32; 256] = [
 ];
 
 // The table as a value, to be read many times: each read of a constant's entry would copy the whole.
-fn table() -> [u32; 256]
+pub fn table() -> [u32; 256]
     ensures { λ r. ⌜ r ≡ map val (points 64) ⌝ }
 {
     POINTS
@@ -312,23 +312,14 @@ pub fn value_at(w: &[u32], x: u32) -> u32
     acc
 }
 
-// Writes the values of w at every step-th of the points, from the first on, until out is full.
-fn values(w: &[u32], points: &[u32], step: usize, out: &mut [u32])
-    requires { ⌜ ((i : ℕ) → i < length (now out) → i * step < length (now points)) × Below (now w) ⌝ }
-    ensures { λ _. ⌜ now (out .exit) ≡ map val (codeword R (taken (now (points .entry)) step (length (now (out .entry)))) (map ofℕ (now (w .entry)))) ⌝ }
+// Writes the codeword of w at the points that are given, by the sums that define it.
+pub fn codeword(w: &[u32], points: &[u32], out: &mut [u32])
+    requires { ⌜ (length (now out) ≡ length (now points)) × Below (now w) ⌝ }
+    ensures { λ _. ⌜ now (out .exit) ≡ map val (codeword R (map ofℕ (now (points .entry))) (map ofℕ (now (w .entry)))) ⌝ }
 {
     let mut i = 0;
     while i < out.len() {
-        out[i] = value_at(w, points[i * step]);
+        out[i] = value_at(w, points[i]);
         i += 1;
     }
-}
-
-// Writes the codeword of w. Its points are every (64 / k)-th of the table, for k witness numbers.
-pub fn codeword(w: &[u32], out: &mut [u32])
-    requires { ⌜ (isWitnessCount (length (now w)) ≡ true) × (length (now out) ≡ 4 * length (now w)) × Below (now w) ⌝ }
-    ensures { λ _. ⌜ now (out .exit) ≡ map val (codeword R (points (length (now (w .entry)))) (map ofℕ (now (w .entry)))) ⌝ }
-{
-    let table = table();
-    values(w, &table, 64 / w.len(), out);
 }

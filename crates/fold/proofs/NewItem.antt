@@ -1,12 +1,10 @@
 -- The new item's numbers: the combination of the items' numbers, with the new e in the first place.
 use mathlib.Core.Path.{_≡_, sym, ap, ap₂, _∙_}
 use mathlib.Core.List.{List, _∷_, _++_, map, map-append}
-use Prim.Native.Nat.{ℕ, zero, suc, _+_, _*_, _≤_, _<_}
-use native.Mathlib.Nat.{zero-add, suc-add}
+use Prim.Native.Nat.{ℕ, suc, _+_, _*_, _≤_, _<_}
 use native.Mathlib.Omega.{arith}
 use lib.ListN.{length, set}
-use Rattle.algebra.specs.Lists.{build}
-use Rattle.algebra.proofs.ListLaws.{build-cong}
+use Rattle.algebra.proofs.ListLaws.{build-cong, build-append}
 use Rattle.field.specs.BabyBear.{babyBear, F, val, ofℕ}
 use Rattle.field.proofs.Numbers.{numbers-of-elements}
 use Rattle.theory.specs.Items.{Item}
@@ -15,14 +13,6 @@ use Rattle.theory.specs.Fp.{itemSize, readItems}
 use Rattle.fold.specs.Weights.{lagrangeAt, weighted, weightedFrom}
 use Rattle.fold.proofs.Reading.{numbers-first, item-inside}
 use Rattle.fold.proofs.Mixing.{length-weights, weightedFrom-below, mixed-r, mixed-x}
-
--- A list made from a function of the index, in two parts.
-pub build-append : {A : Type 0} (m n : ℕ) (f : ℕ → A) → build (m + n) f ≡ build m f ++ build n (λ i. f (m + i))
-build-append zero n f = ap (λ (k : ℕ). build k f) (zero-add n) ∙ build-cong n f (λ i. f (0 + i)) (λ i h. ap f (sym (zero-add i)))
-build-append {A} (suc m) n f =
-    ap (λ (k : ℕ). build k f) (suc-add m n)
-    ∙ ap (λ (t : List A). f 0 ∷ t) (build-append m n (λ i. f (suc i))
-    ∙ ap (λ (t : List A). build m (λ i. f (suc i)) ++ t) (build-cong n (λ i. f (suc (m + i))) (λ i. f (suc m + i)) (λ i h. ap f (sym (suc-add m i)))))
 
 module _ (m n l stride at : ℕ) (items : List ℕ) (layout : 4 * stride ≡ itemSize m n) (sized : length items ≡ l * itemSize m n) {weights : List ℕ} (w : weights ≡ lagrangeAt l at) where
   abbrev batch : List (Item F)

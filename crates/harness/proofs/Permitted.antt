@@ -13,7 +13,7 @@ use Rattle.numbers.proofs.Bounds.{Below, below}
 use Rattle.field.specs.BabyBear.{p}
 use Rattle.tree.specs.Layout.{openingSize}
 use Rattle.code.specs.Points.{isWitnessCount}
-use Rattle.harness.specs.Permitted.{treePermitted, openedPermitted, openingPermitted, codewordSizes, codewordPermitted}
+use Rattle.harness.specs.Permitted.{treePermitted, openedPermitted, openingPermitted, codewordSizes, codewordPermitted, codewordAtPermitted}
 use Rattle.harness.proofs.Answers.{both}
 
 -- ---- depths up to 8
@@ -57,3 +57,8 @@ codeword-inputs w out e =
     let whole = eqb-true (out % 4) 0 (count .1) in
     let quarter = eqb-true (out / 4) k (sizes .1) in
     (count .0, omega arith, below p w (all .1))
+
+pub codeword-at-inputs : (w : List ℕ) (points out : ℕ) → codewordAtPermitted w points out ≡ true → (out ≡ points) × Below p w
+codeword-at-inputs w points out e =
+    let all = both (eqb points out) (allBelow p w) e in
+    (sym (eqb-true points out (all .0)), below p w (all .1))

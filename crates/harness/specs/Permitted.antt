@@ -28,3 +28,7 @@ codewordSizes k out = isWitnessCount k && eqb (out % 4) 0 && eqb (out / 4) k
 -- and every number is an element
 abbrev pub codewordPermitted : List ℕ → ℕ → Bool
 codewordPermitted w out = codewordSizes (length w) out && allBelow p w
+
+-- as many values as points, and every number of w is an element
+abbrev pub codewordAtPermitted : List ℕ → ℕ → ℕ → Bool
+codewordAtPermitted w points out = eqb points out && allBelow p w

@@ -8,7 +8,7 @@ ghost use Rattle.code.specs.Codeword.{codeword};
 ghost use Rattle.code.specs.Points.{points};
 ghost use Rattle.harness.specs.Answers.{permittedAnswer};
 ghost use Rattle.theory.specs.Checks.{written};
-ghost use Rattle.harness.specs.Permitted.{codewordSizes, codewordPermitted};
+ghost use Rattle.harness.specs.Permitted.{codewordSizes, codewordPermitted, codewordAtPermitted};
 
 // Whether all numbers are below p.
 fn all_elements(w: &[u32]) -> bool
@@ -46,6 +46,25 @@ pub extern "C" fn lomvuze_test_codeword(w: &[u32], out: &mut [u32]) -> u32
     if !permitted(w, out.len()) {
         return 1;
     }
-    code::codeword(w, out);
+    transform::codeword(w, out);
+    0
+}
+
+fn permitted_at(w: &[u32], points: usize, out: usize) -> bool
+    ensures { λ r. ⌜ r ≡ codewordAtPermitted (now (w .entry)) points out ⌝ }
+{
+    (points == out) & all_elements(w)
+}
+
+// Writes the codeword of w at the points that are lent. Refuses other lengths than the points', and numbers of p or more.
+#[no_mangle]
+pub extern "C" fn lomvuze_test_codeword_at(w: &[u32], points: &[u32], out: &mut [u32]) -> u32
+    ensures answer { λ r. ⌜ r ≡ permittedAnswer (codewordAtPermitted (now (w .entry)) (length (now (points .entry))) (length (now (out .entry)))) ⌝ }
+    ensures out { λ r. ⌜ now (out .exit) ≡ written r (map val (codeword R (map ofℕ (now (points .entry))) (map ofℕ (now (w .entry))))) (now (out .entry)) ⌝ }
+{
+    if !permitted_at(w, points.len(), out.len()) {
+        return 1;
+    }
+    code::codeword(w, points, out);
     0
 }

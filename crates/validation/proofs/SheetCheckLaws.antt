@@ -11,11 +11,11 @@ use lib.ListN.{length}
 use Rattle.algebra.specs.Lists.{All}
 use Rattle.numbers.proofs.Tests.{each-true}
 use Rattle.code.specs.Points.{isWitnessCount}
+use Rattle.code.proofs.Sizes.{count-few}
 use Rattle.theory.specs.Checks.{answer}
 use Rattle.theory.specs.Sizes.{hasLength}
 use Rattle.theory.specs.Fp.{itemSize}
 use Rattle.checks.proofs.Calls.{fails, and-fails, and-passes}
-use Rattle.checks.proofs.WitnessLaws.{count-few}
 use Rattle.lines.specs.Lines.{Line}
 use Rattle.validation.specs.declared.reading.Reading.{Reading}
 use Rattle.scan.specs.declared.state.State.{State}

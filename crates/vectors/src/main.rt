@@ -57,6 +57,6 @@ fn main() {
         ],
     );
     let mut code = [0u32; 8];
-    code::codeword(&[2, 3], &mut code);
+    transform::codeword(&[2, 3], &mut code);
     show_numbers(b"codeword of 2 3", &code);
 }

@@ -9,7 +9,7 @@ use lib.Dec.{eqb}
 use lib.ListN.{length, getD, length-append, length-map, List·getD-append}
 use lib.Seq.{getD-append-add}
 use Rattle.algebra.specs.Lists.{build}
-use Rattle.algebra.proofs.ListLaws.{length-build, getD-build, build-cong, build-getD, getD-map, map-build}
+use Rattle.algebra.proofs.ListLaws.{length-build, getD-build, build-cong, build-append, build-getD, getD-map, map-build}
 use Rattle.numbers.specs.Numbers.{numbers}
 use Rattle.numbers.proofs.Bytes.{length-numbers}
 use Rattle.numbers.proofs.Bounds.{below}
@@ -25,7 +25,6 @@ use Rattle.theory.specs.Sizes.{elementsBelow}
 use Rattle.theory.specs.Fp.{fp, elementAt, elements, readItem, readItems, itemBelow, sameElement, sameElements, readShown, combines}
 use Rattle.theory.proofs.CheckLaws.{every-true, true-every}
 use Rattle.theory.proofs.Equality.{same-element, same-elements, equal-element, equal-elements}
-use Rattle.fold.proofs.NewItem.{build-append}
 
 -- ---- the quotient's elements
 

@@ -13,13 +13,12 @@ use Rattle.numbers.proofs.Tests.{and-right}
 use Rattle.field.specs.BabyBear.{p}
 use Rattle.tree.specs.Layout.{openingSize, openedValue}
 use Rattle.code.specs.Points.{isWitnessCount, depth}
-use Rattle.code.proofs.Sizes.{for-witness-counts}
+use Rattle.code.proofs.Sizes.{for-witness-counts, count-few}
 use Rattle.theory.specs.Checks.{every}
 use Rattle.theory.specs.Combination.{quotientSize}
 use Rattle.theory.specs.Sizes.{sizes, itemCountFits, positionCountFits, hasLength}
 use Rattle.theory.specs.Fp.{fp, itemSize, openedBelow, verifyFits}
 use Rattle.theory.proofs.Passed.{VerifyFits, verify-fits}
-use Rattle.checks.proofs.WitnessLaws.{count-few}
 use Rattle.checks.proofs.Listed.{sized, counted}
 use Rattle.checks.proofs.Calls.{passed, failed}
 use Rattle.verifier.specs.Verifying.{Counts, Lengths}

@@ -25,9 +25,8 @@ use Rattle.agreement.specs.Elements.{listed}
     );
     for k in [2, 4, 8, 16, 32, 64] {
         text += &format!(
-            "\npub points-{k} : points {k} ≡ listed {}\npoints-{k} = sym (taken-points table whole {k} {} refl refl)\n",
-            table(k),
-            4 * k
+            "\npub points-{k} : points {k} ≡ listed {}\npoints-{k} = sym (taken-points table whole {k} refl)\n",
+            table(k)
         );
     }
     text

@@ -5,7 +5,7 @@
 
 use crate::checks::*;
 use crate::claims::*;
-use crate::plain::{codeword, leads_to, openings, root, P};
+use crate::plain::{leads_to, openings, root, P};
 
 pub fn encode(k: u32, w: &[u8], code_out: &mut [u8], root_out: &mut [u8]) -> u32 {
     if k as usize != K || w.len() != 4 * K || code_out.len() != 16 * K || root_out.len() != 32 {

@@ -1,11 +1,7 @@
 //! Claims and folds with k = 64, and what quotient and fold check alike.
 
 use crate::checks::*;
-use crate::plain::{add, codeword, mul, root, P};
-
-pub fn sub(a: u32, b: u32) -> u32 {
-    add(a, P - b)
-}
+use crate::plain::{self, add, mul, root, sub, P};
 
 pub fn row_sums(list: &[u8], z: &[u32]) -> [u32; 64] {
     let mut sums = [0; 64];
@@ -41,7 +37,13 @@ pub fn holds(m: usize, n: usize, circuit: Circuit, item: &[u8], w: &[u8]) -> boo
     claim_value(circuit, &item[4..x], &item[x..x + 4 * n], w) == get(item, 0)
 }
 
-pub fn witness_codeword(w: &[u8]) -> [u32; 256] {
+pub fn codeword(w: &[u32; K]) -> [u32; 4 * K] {
+    let mut out = [0; 4 * K];
+    plain::codeword(w, &mut out);
+    out
+}
+
+pub fn witness_codeword(w: &[u8]) -> [u32; 4 * K] {
     let mut numbers = [0; K];
     load(w, &mut numbers);
     codeword(&numbers)

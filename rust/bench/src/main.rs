@@ -5,14 +5,8 @@
 //! counts. A ratio above 1 says that the proved code takes longer. What is measured is the thread's processor
 //! time, so that other work on the machine disturbs it less.
 
-mod calls;
-mod checks;
-mod claims;
-mod clock;
-mod plain;
-mod plain_scan;
-mod plain_sheet;
-
+use bench::measure::best;
+use bench::{calls, plain, plain_sheet};
 use lomvuze_proved as proved;
 use lomvuze_reference::sheet::{write, MOST_BYTES};
 use lomvuze_samples::sheet::{of_length, Buffers, Shape, GREATEST};
@@ -22,29 +16,18 @@ use std::hint::black_box;
 
 const ROUNDS: usize = 100;
 
-/// Seconds that one call of `work` takes, over `calls` of them.
-fn seconds<T>(calls: u32, work: &mut impl FnMut() -> T) -> f64 {
-    let start = clock::seconds();
-    for _ in 0..calls {
-        black_box(work());
-    }
-    (clock::seconds() - start) / calls as f64
-}
+/// The bytes of an opening of 256 values.
+const OPENING: usize = 4 + 32 * 8;
 
-/// Seconds that one call of each takes in its best round. Both results agree.
-fn best<T: PartialEq + std::fmt::Debug>(
+/// Seconds that one call of each takes. Both results agree.
+fn times<T: PartialEq + std::fmt::Debug>(
     name: &str,
     calls: u32,
     mut proved: impl FnMut() -> T,
     mut plain: impl FnMut() -> T,
 ) -> (f64, f64) {
     assert_eq!(proved(), plain(), "{name}");
-    let (mut best_proved, mut best_plain) = (f64::MAX, f64::MAX);
-    for _ in 0..ROUNDS {
-        best_proved = best_proved.min(seconds(calls, &mut proved));
-        best_plain = best_plain.min(seconds(calls, &mut plain));
-    }
-    (best_proved, best_plain)
+    best(ROUNDS, calls, proved, plain)
 }
 
 /// One line of the table. A call does `steps` steps.
@@ -55,14 +38,28 @@ fn compare<T: PartialEq + std::fmt::Debug>(
     proved: impl FnMut() -> T,
     plain: impl FnMut() -> T,
 ) {
-    let (proved, plain) = best(name, calls, proved, plain);
+    let (proved, plain) = times(name, calls, proved, plain);
     let nanoseconds = |seconds: f64| 1e9 * seconds / steps as f64;
     println!("{name:<34} {:>12.1} {:>12.1} {:>8.2}", nanoseconds(proved), nanoseconds(plain), proved / plain);
 }
 
 fn main() {
     println!("{:<34} {:>12} {:>12} {:>8}", "", "proved, ns", "plain, ns", "ratio");
+    compare_hashes();
+    compare_field();
+    compare_code();
+    compare_trees();
+    compare_calls();
 
+    println!(
+        "\n{:<34} {:>12} {:>12} {:>8}",
+        "A sheet of 60,000 bytes read", "proved, MB/s", "plain, MB/s", "ratio"
+    );
+    compare_sheet("3,072 entries, 64 pairs", &GREATEST);
+    compare_sheet("24 entries, 40 pairs, long numbers", &Shape { entries: [8; 3], pairs: 40, ..GREATEST });
+}
+
+fn compare_hashes() {
     let short: Vec<u8> = (0..65).collect();
     compare(
         "SHA-256 of 65 bytes",
@@ -80,7 +77,9 @@ fn main() {
         || proved::digest(black_box(&long)),
         || plain::sha256(black_box(&long)),
     );
+}
 
+fn compare_field() {
     let (x, y, n) = (1234567890, 1987654321, 100_000);
     compare(
         "field product",
@@ -96,42 +95,53 @@ fn main() {
         || proved::chain_add(black_box(x), y, n),
         || plain::chain_add(black_box(x), y, n),
     );
+}
 
-    let w: Vec<u32> = (0..64).map(|j| plain::mul(y, 1000 + j)).collect();
-    let proved_codeword = || {
-        let mut out = [0; 256];
-        assert_eq!(proved::codeword(black_box(&w), &mut out), 0);
-        out
-    };
-    compare("codeword at k = 64", 3, 1, proved_codeword, || plain::codeword(black_box(&w)));
+fn witness() -> Vec<u32> {
+    (0..64).map(|j| plain::mul(1987654321, 1000 + j)).collect()
+}
 
-    let values = proved_codeword();
-    let proved_root = || {
-        let mut out = [0; 32];
-        assert_eq!(proved::root(black_box(&values), 8, &mut out), 0);
-        out
-    };
-    compare("tree over 256 leaves, its root", 1, 1, proved_root, || plain::root(black_box(&values)));
+/// What a function writes to a buffer of N zeros.
+fn written<T: Copy + Default, const N: usize>(write: impl FnOnce(&mut [T; N])) -> [T; N] {
+    let mut out = [T::default(); N];
+    write(&mut out);
+    out
+}
 
-    let proved_opening = || {
-        let mut out = [0; 4 + 32 * 8];
-        assert_eq!(proved::opening(black_box(&values), 8, 77, &mut out), 0);
-        out
-    };
-    compare("tree over 256 leaves, an opening", 1, 1, proved_opening, || {
-        let mut out = [0; 4 + 32 * 8];
-        plain::openings(black_box(&values), [77].into_iter(), &mut out);
-        out
-    });
-
-    compare_calls();
-
-    println!(
-        "\n{:<34} {:>12} {:>12} {:>8}",
-        "A sheet of 60,000 bytes read", "proved, MB/s", "plain, MB/s", "ratio"
+fn compare_code() {
+    let (w, points) = (witness(), plain::POINTS);
+    compare(
+        "codeword at k = 64",
+        100,
+        1,
+        || written::<_, 256>(|out| assert_eq!(proved::codeword(black_box(&w), out), 0)),
+        || written::<_, 256>(|out| plain::codeword(black_box(&w), out)),
     );
-    compare_sheet("3,072 entries, 64 pairs", &GREATEST);
-    compare_sheet("24 entries, 40 pairs, long numbers", &Shape { entries: [8; 3], pairs: 40, ..GREATEST });
+    compare(
+        "codeword by sums, k = 64",
+        3,
+        1,
+        || written::<_, 256>(|out| assert_eq!(proved::codeword_at(black_box(&w), &points, out), 0)),
+        || written::<_, 256>(|out| plain::codeword_at(black_box(&w), &points, out)),
+    );
+}
+
+fn compare_trees() {
+    let values = written::<_, 256>(|out| plain::codeword(&witness(), out));
+    compare(
+        "tree over 256 leaves, its root",
+        1,
+        1,
+        || written(|out| assert_eq!(proved::root(black_box(&values), 8, out), 0)),
+        || plain::root(black_box(&values)),
+    );
+    compare(
+        "tree over 256 leaves, an opening",
+        1,
+        1,
+        || written::<_, OPENING>(|out| assert_eq!(proved::opening(black_box(&values), 8, 77, out), 0)),
+        || written::<_, OPENING>(|out| plain::openings(black_box(&values), [77].into_iter(), out)),
+    );
 }
 
 /// Every call.
@@ -182,7 +192,7 @@ fn compare_sheet(line: &str, shape: &Shape) {
     let text = write(&of_length(&mut Random::new(1), shape, MOST_BYTES));
     let mut by_proved = Buffers::new(Buffers::LENGTHS);
     let mut by_plain = by_proved.clone();
-    let (proved, plain) = best(
+    let (proved, plain) = times(
         line,
         10,
         || by_proved.read(read_sheet, black_box(&text)),

@@ -77,6 +77,10 @@ pub fn add(a: u32, b: u32) -> u32 {
     sum - (P <= sum) as u32 * P
 }
 
+pub fn sub(a: u32, b: u32) -> u32 {
+    add(a, P - b)
+}
+
 #[inline(never)]
 pub fn chain_mul(x: u32, y: u32, n: u32) -> u32 {
     let mut product = x;
@@ -95,9 +99,10 @@ pub fn chain_add(x: u32, y: u32, n: u32) -> u32 {
     sum
 }
 
-// ---- The code at k = 64
+// ---- The code
 
-const POINTS: [u32; 256] = {
+/// The points for 64 witness numbers. Those for k are every (64 / k)-th.
+pub static POINTS: [u32; 256] = {
     let mut points = [1; 256];
     let mut i = 1;
     while i < 256 {
@@ -107,9 +112,57 @@ const POINTS: [u32; 256] = {
     points
 };
 
+/// The places for 64 witness numbers: the bits of 0, 1, .., 63 in reverse. Those for k are the first k,
+/// divided by 64 / k.
+static PLACES: [usize; 64] = {
+    let mut places = [0; 64];
+    let mut b = 0;
+    while b < 64 {
+        places[b] = b.reverse_bits() >> (usize::BITS - 6);
+        b += 1;
+    }
+    places
+};
+
+/// Joins the values of the even part, which are the first half, with those of the odd part to the values of the
+/// whole. The points are every step-th of the table, and then their opposites.
+fn join(step: usize, values: &mut [u32]) {
+    let (evens, odds) = values.split_at_mut(values.len() / 2);
+    for ((even, odd), points) in evens.iter_mut().zip(odds).zip(POINTS.chunks_exact(step)) {
+        let product = mul(points[0], *odd);
+        (*even, *odd) = (add(*even, product), sub(*even, product));
+    }
+}
+
+/// Writes the codewords of the single numbers of w, in the order of their places. Each has four equal values.
+fn spread(w: &[u32], out: &mut [u32]) {
+    let shift = 6 - w.len().ilog2();
+    for (part, place) in out.chunks_exact_mut(4).zip(&PLACES) {
+        part.fill(w[place >> shift]);
+    }
+}
+
+/// Writes the codeword of 2, 4, .., 64 numbers, by the halving transform. At first each number is a part by
+/// itself. Each level joins the parts by pairs, until one is left.
 #[inline(never)]
-pub fn codeword(w: &[u32]) -> [u32; 256] {
-    POINTS.map(|x| w.iter().rev().fold(0, |value, coefficient| add(*coefficient, mul(x, value))))
+pub fn codeword(w: &[u32], out: &mut [u32]) {
+    spread(w, out);
+    let (mut values, mut step) = (4, 64);
+    while values < out.len() {
+        values *= 2;
+        step /= 2;
+        for part in out.chunks_exact_mut(values) {
+            join(step, part);
+        }
+    }
+}
+
+/// Writes the value of w at each of the points, by direct sums.
+#[inline(never)]
+pub fn codeword_at(w: &[u32], points: &[u32], out: &mut [u32]) {
+    for (value, x) in out.iter_mut().zip(points) {
+        *value = w.iter().rev().fold(0, |sum, coefficient| add(*coefficient, mul(*x, sum)));
+    }
 }
 
 // ---- The tree over 256 leaves

@@ -37,6 +37,14 @@ mod exported {
         ) -> u32;
 
         pub fn lomvuze_test_codeword(w: *const u32, k: usize, out: *mut u32, count: usize) -> u32;
+        pub fn lomvuze_test_codeword_at(
+            w: *const u32,
+            k: usize,
+            points: *const u32,
+            count: usize,
+            out: *mut u32,
+            size: usize,
+        ) -> u32;
 
         pub fn lomvuze_test_listing(sheet: *const u8, length: usize, out: *mut u8, size: usize) -> usize;
     }
@@ -119,10 +127,26 @@ pub fn leads_to(opening: &[u8], depth: usize, position: usize, out: &mut Digest)
     unsafe { lomvuze_test_leads(opening.as_ptr(), opening.len(), depth, position, out.as_mut_ptr()) }
 }
 
-// ---- The code. Answers 0, or 1 where it refuses sizes that do not fit or a number of p or more.
+// ---- The code. Each answers 0, or 1 where it refuses sizes that do not fit or a number of w that is p or more.
 
+/// Writes the codeword at the built-in points, by the halving transform.
 pub fn codeword(w: &[u32], out: &mut [u32]) -> u32 {
     unsafe { lomvuze_test_codeword(w.as_ptr(), w.len(), out.as_mut_ptr(), out.len()) }
+}
+
+/// Writes the value of w at each of the points, by the sums that define it. Counts are free, and a point is any
+/// number, which stands for its element.
+pub fn codeword_at(w: &[u32], points: &[u32], out: &mut [u32]) -> u32 {
+    unsafe {
+        lomvuze_test_codeword_at(
+            w.as_ptr(),
+            w.len(),
+            points.as_ptr(),
+            points.len(),
+            out.as_mut_ptr(),
+            out.len(),
+        )
+    }
 }
 
 // ---- Sheets.

@@ -1,42 +1,84 @@
--- `code::codeword` meets its contract: every (64 / k)-th entry of the table is a point of k.
+-- `code::codeword` meets its contract. The invariant: the values at the first i positions are written.
 -- Assumes nothing.
-use mathlib.Core.Path.{_∙_, ap}
+use mathlib.Core.Path.{_≡_, refl, _∙_}
 use mathlib.Core.List.{List, map}
-use borrow.Author.Needs.{needs}
-use lib.ListN.{length}
-use Rattle.field.specs.BabyBear.{R, F, val, ofℕ}
-use Rattle.code.specs.Codeword.{codeword}
-use Rattle.code.proofs.Sizes.{count-positive}
-use Rattle.code.proofs.Taken.{taken-within, taken-points}
+use Prim.Native.Nat.{ℕ, _≤_, _-_}
+use native.Mathlib.Omega.{arith}
+use lib.ListN.{length, getD, length-set}
+use Rattle.field.specs.BabyBear.{R, val, ofℕ}
+use Rattle.code.specs.Codeword.{valueAt}
+use Rattle.algebra.proofs.Filling.{Filled, filled-none, filled-more, filled-all}
+use Rattle.code.proofs.Loops.{codeword-given}
 use Rattle.code.proofs.codeword.Statement.{statement}
 use Rattle.code.proofs.codeword.Tie as tie
 
-table-requires : tie.Need-table-requires
-table-requires c κs = search needs
+-- The value at position i.
+abbrev at : List ℕ → List ℕ → ℕ → ℕ
+at w points i = val (valueAt R (map ofℕ w) (ofℕ (getD points i 0)))
 
-slice-aggregate-values : tie.Need-slice-aggregate-values
-slice-aggregate-values c = search needs
+abbrev Inv-loop : tie.InvT-loop
+Inv-loop w points out₀ i₀ out i = (i ≤ length out₀) × (length out ≡ length out₀) × Filled (at w points) i out
 
-div-values : tie.Need-div-values
-div-values c = count-positive _ (c .before .before .before .before .pre .0)
+abbrev μ-loop : tie.MeasureT-loop
+μ-loop w points out₀ i₀ out i = length out₀ - i
 
-values-requires : tie.Need-values-requires
-values-requires c κs =
-    let s = c .before .before .before .before .before in
-    (taken-within (c .before .before .table .result) (c .before .before .table .ensures) (length (s .args .w .now)) (length (s .args .out .now)) (s .pre .0) (s .pre .1), s .pre .2)
+loop-holds : tie.Need-loop-holds Inv-loop μ-loop
+loop-holds c = (omega arith, refl, filled-none (at (c .before .before .before .args .w .now) (c .before .before .before .args .points .now)) (c .before .before .before .args .out .now))
 
-same-length : tie.Need-same-length
-same-length c = search needs
+mul-value-at : tie.Need-mul-value-at Inv-loop μ-loop
+mul-value-at c = omega arith
 
-returns : tie.Need-returns
+shared-slice-read-value-at : tie.Need-shared-slice-read-value-at Inv-loop μ-loop
+shared-slice-read-value-at c = omega arith
+
+value-at-requires : tie.Need-value-at-requires Inv-loop μ-loop
+value-at-requires c κs = c .before .before .before .before .before .before .pre .1
+
+mul-out : tie.Need-mul-out Inv-loop μ-loop
+mul-out c = omega arith
+
+slice-write-out : tie.Need-slice-write-out Inv-loop μ-loop
+slice-write-out c = omega arith
+
+add-i : tie.Need-add-i Inv-loop μ-loop
+add-i c = omega arith
+
+loop-less : tie.Need-loop-less Inv-loop μ-loop
+loop-less c = omega arith
+
+loop-again : tie.Need-loop-again Inv-loop μ-loop
+loop-again c =
+    let s = c .before .before .before .before .before .before .before .args in
+    let l = c .before .before .before .loop in (
+      omega arith,
+      simp length-set (l .inv .1),
+      filled-more (at (s .w .now) (s .points .now)) (l .i) (l .out) (c .value-at .result) (omega arith) (l .inv .2) (c .value-at .ensures),
+    )
+
+same-length : tie.Need-same-length Inv-loop μ-loop
+same-length c = c .before .loop .inv .1
+
+returns : tie.Need-returns Inv-loop μ-loop
 returns c =
-    let s = c .before .before .before .before .before .before .before .before in
-    let table = c .before .before .before .before .before .table in
-    c .before .before .values .ensures
-    ∙ ap (λ (ps : List F). map val (codeword R ps (map ofℕ (s .args .w .now))))
-    (taken-points (table .result) (table .ensures) (length (s .args .w .now)) (length (s .args .out .now)) (s .pre .0) (s .pre .1))
+    let s = c .before .before .before .before .before .args in
+    let l = c .before .loop in
+    filled-all (at (s .w .now) (s .points .now)) (l .i) (length (s .out .now)) (l .out) (omega arith) (l .inv .1) (l .inv .2)
+    ∙ codeword-given (length (s .out .now)) (s .points .now) (map ofℕ (s .w .now)) (c .before .before .before .before .before .pre .0)
 
 pub codeword-spec : {M : Type 1} → statement M
 codeword-spec =
     tie.close
-    (tie.spec table-requires slice-aggregate-values div-values values-requires same-length returns)
+    (tie.spec
+    Inv-loop
+    μ-loop
+    loop-holds
+    mul-value-at
+    shared-slice-read-value-at
+    value-at-requires
+    mul-out
+    slice-write-out
+    add-i
+    loop-less
+    loop-again
+    same-length
+    returns)

@@ -7,10 +7,10 @@ use native.Mathlib.Nat.{zero-mul}
 use native.Mathlib.Omega.{arith}
 use Rattle.numbers.specs.Equality.{sameBytes}
 use Rattle.tree.specs.Layout.{part}
+use Rattle.code.proofs.Sizes.{count-few}
 use Rattle.theory.specs.Checks.{every}
 use Rattle.theory.specs.Fp.{witnessRoot, elements, readWitness}
 use Rattle.checks.proofs.Laws.{every-none, every-all, turn-fails, turn-passes}
-use Rattle.checks.proofs.WitnessLaws.{count-few}
 use Rattle.checks.proofs.Members.{Member, cut, within, cut-at, cut-member, cut-length, next-place, wit-below}
 use Rattle.checks.proofs.claims.all_match.Statement.{statement}
 use Rattle.checks.proofs.claims.all_match.Tie as tie

@@ -1,7 +1,7 @@
 -- `list::verdict` meets its contract, check by check.
 use mathlib.Core.Path.{refl}
+use Rattle.code.proofs.Sizes.{count-few}
 use Rattle.checks.proofs.Calls.{fails, passes}
-use Rattle.checks.proofs.WitnessLaws.{count-few}
 use borrow.Author.Needs.{needs}
 use Rattle.checks.proofs.list.verdict.Statement.{statement}
 use Rattle.checks.proofs.list.verdict.Tie as tie

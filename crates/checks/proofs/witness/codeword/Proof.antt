@@ -1,7 +1,8 @@
 -- `witness::codeword` meets its contract: the numbers of w are loaded into the front of an array.
 use mathlib.Core.Path.{_∙_}
+use Rattle.code.proofs.Sizes.{count-few}
 use Rattle.checks.proofs.Fronts.{front-length, front-numbers, front-fits, front-taken, front-count}
-use Rattle.checks.proofs.WitnessLaws.{count-few, loaded-length, witness-asked, codeword-read}
+use Rattle.checks.proofs.WitnessLaws.{loaded-length, witness-asked, codeword-read}
 use lib.ListN.{replicate}
 use borrow.Author.Needs.{needs}
 use Rattle.checks.proofs.witness.codeword.Statement.{statement}

@@ -4,9 +4,10 @@ use native.Mathlib.Omega.{arith}
 use Prim.Native.Nat.{_*_}
 use lib.ListN.{length, replicate}
 use Rattle.code.proofs.Numbers.{codeword-numbers-length}
+use Rattle.code.proofs.Sizes.{count-few}
 use Rattle.theory.specs.Fp.{elements}
 use Rattle.checks.proofs.Fronts.{front-length, front-fits, front-taken, front-count}
-use Rattle.checks.proofs.WitnessLaws.{count-few, root-read, codeword-leaves}
+use Rattle.checks.proofs.WitnessLaws.{root-read, codeword-leaves}
 use borrow.Author.Needs.{needs}
 use Rattle.checks.proofs.witness.root.Statement.{statement}
 use Rattle.checks.proofs.witness.root.Tie as tie

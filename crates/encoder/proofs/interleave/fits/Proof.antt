@@ -9,9 +9,9 @@ use borrow.Author.Tests.{not-true, not-false}
 use Rattle.numbers.proofs.Tests.{and-left, and-right}
 use Rattle.tree.specs.Layout.{openingSize}
 use Rattle.code.specs.Points.{isWitnessCount, depth}
+use Rattle.code.proofs.Sizes.{count-few}
 use Rattle.theory.specs.Sizes.{itemCountFits, positionCountFits, hasLength}
 use Rattle.theory.proofs.HonestList.{few-items}
-use Rattle.checks.proofs.WitnessLaws.{count-few}
 use Rattle.encoder.proofs.OpeningLaws.{size-small}
 use Rattle.encoder.proofs.Ordering.{count-small, all-small}
 use borrow.Author.Needs.{needs}

@@ -7,8 +7,8 @@ use native.Mathlib.Omega.{arith}
 use borrow.Author.Tests.{not-true, not-false}
 use Rattle.tree.specs.Layout.{openingSize}
 use Rattle.code.specs.Points.{isWitnessCount, depth}
+use Rattle.code.proofs.Sizes.{count-few}
 use Rattle.theory.specs.Sizes.{hasLength, positionCountFits}
-use Rattle.checks.proofs.WitnessLaws.{count-few}
 use Rattle.encoder.proofs.OpeningLaws.{depth-few, openings-small}
 use borrow.Author.Needs.{needs}
 use Rattle.encoder.proofs.open.fits.Statement.{statement}

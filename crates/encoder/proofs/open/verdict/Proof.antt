@@ -2,7 +2,7 @@
 use mathlib.Core.Path.{refl, sym, _∙_}
 use native.Mathlib.Omega.{arith}
 use borrow.Author.Tests.{not-false}
-use Rattle.checks.proofs.WitnessLaws.{count-few}
+use Rattle.code.proofs.Sizes.{count-few}
 use Rattle.checks.proofs.Calls.{fails, passes}
 use Rattle.encoder.proofs.Accepted.{OpenFits, open-fits}
 use borrow.Author.Needs.{needs}

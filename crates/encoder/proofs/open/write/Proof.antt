@@ -1,8 +1,8 @@
 -- `open::write` meets its contract: the front of an array is scratch space.
 use mathlib.Core.Path.{sym}
 use native.Mathlib.Omega.{arith}
+use Rattle.code.proofs.Sizes.{count-few}
 use Rattle.checks.proofs.Fronts.{front-length}
-use Rattle.checks.proofs.WitnessLaws.{count-few}
 use borrow.Author.Needs.{needs}
 use Rattle.encoder.proofs.open.write.Statement.{statement}
 use Rattle.encoder.proofs.open.write.Tie as tie

@@ -1,0 +1,11 @@
+//! What the programs of this package share: the algorithms of the proved library in plain Rust, and the
+//! measurement of both.
+
+pub mod calls;
+mod checks;
+mod claims;
+mod clock;
+pub mod measure;
+pub mod plain;
+mod plain_scan;
+pub mod plain_sheet;

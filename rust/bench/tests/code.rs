@@ -1,0 +1,20 @@
+//! The plain code beside the reference.
+
+use bench::plain;
+use lomvuze_reference::code;
+use lomvuze_samples::Random;
+
+#[test]
+fn codewords() {
+    let mut random = Random::new(1);
+    for k in [2, 4, 8, 16, 32, 64] {
+        let w = random.elements(k);
+        let expected: Vec<u32> = code::codeword(&w).iter().map(|value| value.number()).collect();
+        let w: Vec<u32> = w.iter().map(|element| element.number()).collect();
+        let points: Vec<u32> = plain::POINTS.iter().copied().step_by(64 / k).collect();
+        let (mut transform, mut sums) = (vec![0; 4 * k], vec![0; 4 * k]);
+        plain::codeword(&w, &mut transform);
+        plain::codeword_at(&w, &points, &mut sums);
+        assert_eq!([&transform, &sums], [&expected; 2], "k = {k}");
+    }
+}
