@@ -110,16 +110,16 @@ block-double l size b = take-add size size (drop (b * (size + size)) l)
 
 -- ---- numbers of all blocks
 
-positive : (n size j : ℕ) → j < n * size → 0 < size
-positive n zero j h = absurd (omega (arith, mul-zero n))
-positive n (suc size) j h = omega arith
+pub factor-positive : (n m j : ℕ) → j < n * m → 0 < m
+factor-positive n zero j h = absurd (omega (arith, mul-zero n))
+factor-positive n (suc m) j h = omega arith
 
 pub blocks-below : (n size : ℕ) (f : ℕ → List ℕ) (l : List ℕ) → length l ≡ n * size → Blocks n size f l → ((b : ℕ) → b < n → Below (f b)) → Below l
 blocks-below n size f l long same below j h =
     subst (λ (x : ℕ). x < p) found (below (j / size) inside (j % size) (omega (arith, ap length (sym (same (j / size) inside)), block-length l n size long (j / size) inside, part)))
   where
     some : 0 < size
-    some = positive n size j (omega arith)
+    some = factor-positive n size j (omega arith)
 
     part : j % size < size
     part = mod-lt j some

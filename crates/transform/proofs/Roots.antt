@@ -2,8 +2,8 @@
 -- Assumes nothing.
 use mathlib.Core.Path.{_≡_, sym, _∙_, ap}
 use mathlib.Core.List.{List, map}
-use Prim.Native.Nat.{ℕ, zero, suc, _*_, _<_}
-use native.Mathlib.Nat.{mul-comm, mul-zero, mul-lt-mul-of-pos-right}
+use Prim.Native.Nat.{ℕ, _*_, _<_}
+use native.Mathlib.Nat.{mul-comm, mul-lt-mul-of-pos-right}
 use native.Mathlib.Omega.{arith}
 use lib.ListN.{getD}
 use Rattle.algebra.specs.Polynomial.{pow}
@@ -13,6 +13,7 @@ use Rattle.field.proofs.Laws.{ofℕ-val}
 use Rattle.code.specs.Points.{generator, point, points}
 use Rattle.code.proofs.Generator.{half-turn}
 use Rattle.code.proofs.Taken.{table-at}
+use Rattle.transform.proofs.BlockLaws.{factor-positive}
 
 -- The root for a skip.
 abbrev pub root : ℕ → F
@@ -24,13 +25,8 @@ root-square skip = ap (pow R (generator 64)) (mul-comm 2 skip) ∙ pow-mul R (ge
 pub root-turn : (skip half : ℕ) → half * skip ≡ 128 → pow R (root skip) half ≡ ⊝ 𝟙
 root-turn skip half e = sym (pow-mul R (generator 64) skip half) ∙ ap (pow R (generator 64)) (mul-comm skip half ∙ e) ∙ half-turn
 
--- A factor of 256.
-positive : (n skip : ℕ) → n * skip ≡ 256 → 0 < skip
-positive n zero e = absurd (omega (arith, mul-zero n))
-positive n (suc skip) e = omega arith
-
 pub within : (skip n : ℕ) → n * skip ≡ 256 → (i : ℕ) → i < n → i * skip < 256
-within skip n size i h = omega (arith, mul-lt-mul-of-pos-right {m = i} {n = n} {k = skip} h (positive n skip size))
+within skip n size i h = omega (arith, mul-lt-mul-of-pos-right {m = i} {n = n} {k = skip} h (factor-positive n skip 0 (omega arith)))
 
 pub power-at : (table : List ℕ) → table ≡ map val (points 64) → (skip n : ℕ) → n * skip ≡ 256 → (i : ℕ) → i < n → ofℕ (getD table (i * skip) 0) ≡ pow R (root skip) i
 unfolding point
