@@ -30,9 +30,21 @@
  *   quotient   (l - 1) * (m + 1) elements, the coefficient of X^0 first
  *   positions  t numbers below 4k
  *   opening    the codeword's value at a position, then log2(4k) digests: the siblings from the
- *              leaf upwards
+ *              leaf upwards. The position is not among its bytes, but is hashed in its leaf.
  *
  * Several items, witnesses or openings follow one another without gaps.
+ *
+ * ROOTS
+ *
+ * A root is that of the tree of RFC 6962, section 2.1, with SHA-256, over the values of a
+ * witness's codeword. A leaf is the byte 0x00, its position and the value there, both in four
+ * bytes, lowest first; an inner node is the byte 0x01 and the digests of its two children. One
+ * and the same opening leads to one root at two different positions only if two different strings
+ * with one SHA-256 digest are hashed for it.
+ *
+ * Before version 0.2.0 a leaf was the byte 0x00 and the value alone. Roots of that time are not
+ * converted, and count as any other digest: of a batch of that time the quotient, the fold and
+ * the decision are refused by LOMVUZE_ROOT, and the verification by LOMVUZE_OPENING.
  *
  * CLAIMS
  *
@@ -153,7 +165,7 @@ extern "C" {
 /* ---- The version of this header: numbers, and the text "MAJOR.MINOR.PATCH" */
 
 #define LOMVUZE_VERSION_MAJOR 0
-#define LOMVUZE_VERSION_MINOR 1
+#define LOMVUZE_VERSION_MINOR 2
 #define LOMVUZE_VERSION_PATCH 0
 #define LOMVUZE_VERSION \
   LOMVUZE_TEXT(LOMVUZE_VERSION_MAJOR, LOMVUZE_VERSION_MINOR, LOMVUZE_VERSION_PATCH)
@@ -343,9 +355,7 @@ enum lomvuze_answer {
  *   w         LOMVUZE_WITNESS_BYTES(k)
  *   code_out  LOMVUZE_CODEWORD_BYTES(k): at position i the sum over j of w_j * (g^i)^j, where
  *             g = 31^((p - 1) / 4k)
- *   root_out  LOMVUZE_DIGEST_BYTES: of the tree of RFC 6962, section 2.1, with SHA-256. A leaf is
- *             the byte 0x00 and a value in four bytes, an inner node the byte 0x01 and the digests
- *             of its two children.
+ *   root_out  LOMVUZE_DIGEST_BYTES: see ROOTS above
  *
  * Checks, in this order: LOMVUZE_SIZE, LOMVUZE_ELEMENT.
  */

@@ -13,6 +13,9 @@ mod buffers;
 #[path = "edges/contents.rs"]
 mod contents;
 
+#[path = "edges/leaves.rs"]
+mod leaves;
+
 #[path = "edges/order.rs"]
 mod order;
 

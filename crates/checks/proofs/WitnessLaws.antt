@@ -6,7 +6,7 @@ use Prim.Native.Nat.{ℕ, _*_, _^_, _<_}
 use native.Mathlib.Omega.{arith}
 use lib.ListN.{length, getD, length-map}
 use Rattle.algebra.proofs.ListLaws.{build-cong, build-getD, map-build, getD-map}
-use Rattle.numbers.specs.Numbers.{numbers}
+use Rattle.numbers.specs.Numbers.{numbers, bytes4}
 use Rattle.numbers.proofs.Bytes.{length-numbers}
 use Rattle.numbers.proofs.Bounds.{below}
 use Rattle.field.specs.BabyBear.{p, babyBear, R, F, val, ofℕ, 𝟘}
@@ -38,10 +38,10 @@ numbers-below b e = below p (numbers b) e
 pub entries-leaves : (vs : List F) → entries (map val vs) ≡ leaves babyBear sha vs
 entries-leaves vs =
     sym (build-getD (entries (map val vs)) (length vs) [] (length-entries (map val vs) ∙ length-map vs val))
-    ∙ build-cong (length vs) (λ i. getD (entries (map val vs)) i []) (λ i. entry i (val (getD vs i 𝟘))) each
+    ∙ build-cong (length vs) (λ i. getD (entries (map val vs)) i []) (λ i. entry i (bytes4 (val (getD vs i 𝟘)))) each
   where
-    each : (i : ℕ) → i < length vs → getD (entries (map val vs)) i [] ≡ entry i (val (getD vs i 𝟘))
-    each i h = entry-at (map val vs) i (omega (arith, length-map vs val)) ∙ ap (entry i) (getD-map val vs i 𝟘 0 h)
+    each : (i : ℕ) → i < length vs → getD (entries (map val vs)) i [] ≡ entry i (bytes4 (val (getD vs i 𝟘)))
+    each i h = entry-at (map val vs) i (omega (arith, length-map vs val)) ∙ ap (λ (v : ℕ). entry i (bytes4 v)) (getD-map val vs i 𝟘 0 h)
 
 -- ---- the codeword and the root of k numbers in a buffer
 

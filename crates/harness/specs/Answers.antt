@@ -1,7 +1,7 @@
 -- What the harness answers: 0, or 1 where it refuses its input; a refusal writes nothing.
 use Prim.Native.Nat.{ℕ, _^_}
 use mathlib.Core.Bool.{Bool, true, false}
-use lib.Dec.{ltb}
+use lib.Dec.{leb, ltb}
 
 -- 0 where the input is permitted, and 1 where it is not
 abbrev pub permittedAnswer : Bool → ℕ
@@ -11,3 +11,7 @@ permittedAnswer false = 1
 -- SHA-256 takes messages below 2 ^ 61 bytes
 abbrev pub digestAnswer : ℕ → ℕ
 digestAnswer bytes = permittedAnswer (ltb bytes (2 ^ 61))
+
+-- a leaf takes a value of at most sixteen bytes
+abbrev pub leafAnswer : ℕ → ℕ
+leafAnswer bytes = permittedAnswer (leb bytes 16)

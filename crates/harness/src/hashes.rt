@@ -3,7 +3,7 @@ ghost use mathlib.Core.Path.{_≡_};
 ghost use mathlib.Core.List.{_∷_, _++_};
 ghost use lib.ListN.{length};
 ghost use Rattle.hash.specs.Sha256.{digest};
-ghost use Rattle.harness.specs.Answers.{digestAnswer};
+ghost use Rattle.harness.specs.Answers.{digestAnswer, leafAnswer};
 ghost use Rattle.theory.specs.Checks.{written};
 
 // A message of 2^61 bytes or more is refused: its length in bits does not fit eight bytes.
@@ -20,13 +20,19 @@ pub extern "C" fn lomvuze_test_digest(message: &[u8], out: &mut [u8; 32]) -> u32
     0
 }
 
+// A value of more than sixteen bytes is refused.
 #[no_mangle]
-pub extern "C" fn lomvuze_test_leaf(value: &[u8; 4], out: &mut [u8; 32])
-    ensures { λ _. ⌜ now (out .exit) ≡ digest (0x00 ∷ now (value .entry)) ⌝ }
+pub extern "C" fn lomvuze_test_leaf(position: &[u8; 4], value: &[u8], out: &mut [u8; 32]) -> u32
+    ensures answer { λ r. ⌜ r ≡ leafAnswer (length (now (value .entry))) ⌝ }
+    ensures out { λ r. ⌜ now (out .exit) ≡ written r (digest (0x00 ∷ (now (position .entry) ++ now (value .entry)))) (now (out .entry)) ⌝ }
 {
-    let v = *value;
-    let d = hash::leaf(v);
+    if !(value.len() <= 16) {
+        return 1;
+    }
+    let p = *position;
+    let d = hash::leaf(p, value);
     *out = d;
+    0
 }
 
 #[no_mangle]

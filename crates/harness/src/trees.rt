@@ -59,7 +59,7 @@ fn write_opening(values: &[u32], depth: usize, position: usize, out: &mut [u8])
     requires { ⌜ (length (now values) ≡ 2 ^ depth) × (depth ≤ 8) × (position < 2 ^ depth) × (length (now out) ≡ openingSize depth) ⌝ }
     ensures { λ _. ⌜ now (out .exit) ≡ ownOpening digest depth (now (values .entry)) position ⌝ }
 {
-    let positions = numbers::bytes_of(position as u32);
+    let positions = numbers::bytes_of(position);
     tree::write_openings(values, depth, &positions, out);
 }
 

@@ -7,10 +7,15 @@ use native.Mathlib.Omega.{arith}
 use lib.ListN.{length, take, drop, set, replicate, length-append, drop-of-length-le}
 use lib.Seq.{take-at}
 
--- a value of four bytes, written behind the byte 0x00
-pub leaf-message : (value m : List ℕ) → length value ≡ 4
-    → m ≡ take 1 (set (replicate 5 0) 0 0) ++ value ++ drop (1 + length value) (set (replicate 5 0) 0 0) → m ≡ 0 ∷ value
-leaf-message value m l e = e ∙ ap (λ (i : ℕ). 0 ∷ value ++ drop (1 + i) (set (replicate 5 0) 0 0)) l ∙ append-nil (0 ∷ value)
+-- four bytes and a value, written one after the other behind the byte 0x00: what stands there up to the value's end
+pub leaf-message : (position value m n : List ℕ) → length position ≡ 4
+    → m ≡ take 1 (set (replicate 21 0) 0 0) ++ position ++ drop (1 + length position) (set (replicate 21 0) 0 0)
+    → n ≡ take 5 m ++ value ++ drop (5 + length value) m → take (5 + length value) n ≡ 0 ∷ (position ++ value)
+leaf-message position value m n l e-m e-n =
+    let first : m ≡ 0 ∷ position ++ replicate 16 0 = e-m ∙ ap (λ (i : ℕ). 0 ∷ position ++ drop (1 + i) (set (replicate 21 0) 0 0)) l in
+    ap (take (5 + length value))
+    (e-n ∙ ap (λ (x : List ℕ). x ++ value ++ drop (5 + length value) m) (ap (take 5) first ∙ take-at (0 ∷ position) (replicate 16 0) 5 (omega arith)))
+    ∙ take-at (0 ∷ position ++ value) (drop (5 + length value) m) (5 + length value) (omega (arith, length-append position value))
 
 -- two digests, written one after the other behind the byte 0x01
 pub node-message : (left right m n : List ℕ) → length left ≡ 32 → length right ≡ 32

@@ -1,7 +1,7 @@
 // SHA-256 (FIPS 180-4), for a message of any length, and for the leaf and the inner node of a hash tree (RFC 6962, section 2.1).
 ghost use mathlib.Core.Path.{_≡_};
 ghost use mathlib.Core.List.{_∷_, _++_};
-ghost use Prim.Native.Nat.{_^_, _<_};
+ghost use Prim.Native.Nat.{_^_, _≤_, _<_};
 ghost use lib.ListN.{length};
 ghost use Rattle.hash.specs.Sha256.{digest};
 
@@ -35,14 +35,16 @@ pub fn digest(msg: &[u8]) -> [u8; 32]
     message::bytes(compress::blocks(h, &last, (len % 64 + 8) / 64 + 1))
 }
 
-// The digest of a leaf: the byte 0x00 and the four bytes of a value.
-pub fn leaf(value: [u8; 4]) -> [u8; 32]
-    ensures { λ r. ⌜ r ≡ digest (0x00 ∷ value) ⌝ }
+// The digest of a leaf: the byte 0x00, the four bytes of a position, and those of a value, at most sixteen.
+pub fn leaf(position: [u8; 4], value: &[u8]) -> [u8; 32]
+    requires { ⌜ length (now value) ≤ 16 ⌝ }
+    ensures { λ r. ⌜ r ≡ digest (0x00 ∷ (position ++ now (value .entry))) ⌝ }
 {
-    let mut msg = [0u8; 5];
+    let mut msg = [0u8; 21];
     msg[0] = 0x00;
-    message::copy(&mut msg, 1, &value);
-    digest(&msg)
+    message::copy(&mut msg, 1, &position);
+    message::copy(&mut msg, 5, value);
+    digest(&msg[..5 + value.len()])
 }
 
 // The digest of an inner node: the byte 0x01 and the digests of its two children.

@@ -130,6 +130,16 @@ bytes-numbers (suc n) (a ∷ b ∷ c ∷ d ∷ r) l h =
     (bytes4-number4 a b c d (h 0 (omega arith)) (h 1 (omega arith)) (h 2 (omega arith)) (h 3 (omega arith)))
     (bytes-numbers n r (omega arith) (λ i m. h (suc (suc (suc (suc i)))) (omega arith)))
 
+-- of one number
+bytes-one : (xs : List ℕ) → length xs ≡ 1 → bytes4 (getD xs 0 0) ≡ bytes xs
+unfolding bytes
+bytes-one [] l = absurd (omega arith)
+bytes-one (x ∷ []) l = refl
+bytes-one (x ∷ y ∷ xs) l = absurd (omega arith)
+
+pub bytes4-numbers : (b : List ℕ) → length b ≡ 4 → Below 256 b → bytes4 (getD (numbers b) 0 0) ≡ b
+bytes4-numbers b l h = bytes-one (numbers b) (length-numbers 1 b l) ∙ bytes-numbers 1 b l h
+
 -- ---- stores
 -- four stores in a row write a number
 pub stored4 : (i x : ℕ) (b : List ℕ) → 4 * i + 4 ≤ length b

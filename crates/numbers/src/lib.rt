@@ -21,8 +21,8 @@ pub fn get(b: &[u8], i: usize) -> u32
     wide(b[at]) + 256 * wide(b[at + 1]) + 65536 * wide(b[at + 2]) + 16777216 * wide(b[at + 3])
 }
 
-// The four bytes of x.
-pub fn bytes_of(x: u32) -> [u8; 4]
+// The four bytes of x, or the lowest four where it has more.
+pub fn bytes_of(x: usize) -> [u8; 4]
     ensures { λ r. ⌜ r ≡ bytes4 x ⌝ }
 {
     [

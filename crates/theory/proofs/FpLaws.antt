@@ -10,11 +10,11 @@ use lib.ListN.{length, getD, length-map, List·getD-append}
 use Rattle.algebra.proofs.ListLaws.{getD-map}
 use Rattle.numbers.specs.Numbers.{numbers, bytes}
 use Rattle.numbers.proofs.Bounds.{Below, all-below}
-use Rattle.numbers.proofs.Bytes.{length-bytes, number4-bytes4, numbers-bytes}
+use Rattle.numbers.proofs.Bytes.{length-bytes, number4-bytes4, bytes4-injective, numbers-bytes}
 use Rattle.field.specs.BabyBear.{p, F, val, ofℕ, 𝟘}
 use Rattle.field.proofs.Laws.{val-lt, val-inj, ofℕ-val, below-p, ofNat-differ}
 use Rattle.hash.proofs.DigestLaws.{digest-length}
-use Rattle.tree.proofs.Entries.{entry-injective}
+use Rattle.tree.proofs.Entries.{entry-value}
 use Rattle.code.proofs.Sizes.{depth-leaves}
 use Rattle.code.proofs.Points.{points-length}
 use Rattle.code.proofs.Different.{points-distinct}
@@ -60,7 +60,7 @@ fp-laws = record {
   format-laws = fp-format;
   hash-laws = record {
     digest-length = digest-length;
-    entry-value = λ i v w e. val-inj v w (entry-injective i (val v) (val w) (four-bytes v) (four-bytes w) e);
+    entry-value = λ i v w e. val-inj v w (bytes4-injective (val v) (val w) (four-bytes v) (four-bytes w) (entry-value i i _ _ e));
   };
   code-laws = λ k h. record { size = depth-leaves k h; count = points-length k; different = points-distinct k h };
   nodes-differ = ofNat-differ 57 (lit< tt);

@@ -10,8 +10,9 @@ use lib.Seq.{take-take, take-at, drop-at}
 use Rattle.algebra.specs.Ring.{CommRing}
 use Rattle.algebra.specs.Lists.{concatTo}
 use Rattle.algebra.proofs.ListLaws.{length-concatTo}
+use Rattle.tree.specs.Merkle.{Long}
 use Rattle.tree.specs.Layout.{part, digests, flat}
-use Rattle.tree.proofs.ReadBack.{Long, digests-drop, digests-take, flat-length, digests-flat}
+use Rattle.tree.proofs.ReadBack.{digests-drop, digests-take, flat-length, digests-flat}
 use Rattle.theory.specs.Folds.{Opening}
 use Rattle.theory.specs.Instance.{Instance}
 use Rattle.theory.specs.Buffers.{openingSize, openingPart, openedPart, readOpening, openingBytes, inOrder}

@@ -1,10 +1,10 @@
--- The field of p elements: its instance, with SHA-256, leaves of four bytes and the built-in points of the code; and the names that
--- the contracts of the calls use, each a definition of `Instance`, `Buffers`, `Sizes` or `Calls` for this instance.
+-- The field of p elements: its instance, with SHA-256, leaves of a position and the four bytes of a number, and the built-in points of the
+-- code; and the names that the contracts of the calls use, each a definition of `Instance`, `Buffers`, `Sizes` or `Calls` for this instance.
 use mathlib.Core.Bool.{Bool, true, _&&_}
 use mathlib.Core.List.{List, map}
 use Prim.Native.Nat.{ℕ, _*_}
 use lib.Dec.{leb, ltb}
-use Rattle.numbers.specs.Numbers.{bytes}
+use Rattle.numbers.specs.Numbers.{bytes4, bytes}
 use Rattle.field.specs.BabyBear.{babyBear, p, F, val, ofℕ}
 use Rattle.hash.specs.Sha256.{digest}
 use Rattle.tree.specs.Entry.{entry}
@@ -38,7 +38,7 @@ fpFormat = record {
 }
 
 abbrev pub sha : Hash F
-sha = record { digest = digest; entry = λ i v. entry i (val v) }
+sha = record { digest = digest; entry = λ i v. entry i (bytes4 (val v)) }
 
 abbrev pub fp : Instance
 fp = record { field = babyBear; format = fpFormat; hash = sha; points = points }

@@ -5,6 +5,7 @@ pub mod Strings
 pub mod Shown
 pub mod Decided
 pub mod Entries
+pub mod Positions
 pub mod Levels
 pub mod Heaps
 pub mod Written

@@ -1,17 +1,30 @@
 -- Digests are read off their own bytes alone, and what was written is read back; the lengths of openings.
-use mathlib.Core.Path.{_≡_, refl, sym, ap, ap₂, _∙_}
+use mathlib.Core.Path.{_≡_, refl, sym, ap, ap₂, subst, _∙_}
 use mathlib.Core.List.{List, [], _∷_, _++_}
-use Prim.Native.Nat.{ℕ, zero, suc, _+_, _-_, _*_, _/_, _≤_}
+use Prim.Native.Nat.{ℕ, zero, suc, _+_, _-_, _*_, _/_, _≤_, _<_}
 use native.Mathlib.Omega.{arith}
-use lib.ListN.{length, getD, take, drop, length-append}
-use lib.Seq.{take-at, drop-at, take-take, drop-drop}
-use Rattle.tree.specs.Merkle.{path, pathFrom}
+use lib.ListN.{length, getD, take, drop, length-append, length-drop}
+use lib.Seq.{take-at, drop-at, take-take, drop-drop, length-take-le, getD-take, getD-drop}
+use Rattle.numbers.specs.Numbers.{bytes4}
+use Rattle.numbers.proofs.Bounds.{Below}
+use Rattle.numbers.proofs.Bytes.{bytes4-numbers}
+use Rattle.tree.specs.Merkle.{Long, path, pathFrom}
 use Rattle.tree.specs.Entry.{entries}
-use Rattle.tree.specs.Layout.{digests, openingSize, flat, openingBytes, ownOpening}
+use Rattle.tree.specs.Layout.{part, digests, openedValue, openingSize, flat, openingBytes, ownOpening}
 use Rattle.tree.proofs.Blocks.{drop-take, root-length}
 use Rattle.tree.proofs.Completeness.{path-length}
 
 -- ---- an opening's own bytes
+-- those of its value, in a buffer of bytes
+pub value-bytes : (s : List ℕ) (at : ℕ) → at + 4 ≤ length s → Below 256 s → bytes4 (openedValue s at) ≡ part s at 4
+value-bytes s at h small = bytes4-numbers (part s at 4) long (λ i l. subst (λ (n : ℕ). n < 256) (sym (at-part i (omega (arith, l, long)))) (small (at + i) (omega (arith, l, long))))
+  where
+    long : length (part s at 4) ≡ 4
+    long = length-take-le 4 (drop at s) (omega (arith, length-drop at s))
+
+    at-part : (i : ℕ) → i < 4 → getD (part s at 4) i 0 ≡ getD s (at + i) 0
+    at-part i l = getD-take 4 (drop at s) i 0 l ∙ getD-drop at s i 0
+
 pub digests-drop : (s : List ℕ) (at k n : ℕ) → digests s (at + k) n ≡ digests (drop at s) k n
 unfolding digests
 digests-drop s at k zero = refl
@@ -42,11 +55,6 @@ digests-length s at zero = refl
 digests-length s at (suc n) = ap suc (digests-length s (at + 32) n)
 
 -- ---- reading back
--- every string of the list has thirty-two bytes
-abbrev pub Long : List (List ℕ) → Type 0
-Long [] = Unit {0}
-Long (d ∷ ds) = (length d ≡ 32) × Long ds
-
 pub flat-length : (ds : List (List ℕ)) → Long ds → length (flat ds) ≡ 32 * length ds
 unfolding flat
 flat-length [] l = refl

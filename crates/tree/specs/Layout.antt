@@ -30,7 +30,7 @@ openedPath s at depth = digests s (at + 4) depth
 
 -- where the opening leads for position i
 abbrev pub openedRoot : (List ℕ → List ℕ) → List ℕ → ℕ → ℕ → ℕ → List ℕ
-openedRoot digest s at depth i = openingRoot digest (entry i (openedValue s at)) i (openedPath s at depth)
+openedRoot digest s at depth i = openingRoot digest (entry i (bytes4 (openedValue s at))) i (openedPath s at depth)
 
 -- ---- the bytes of openings
 

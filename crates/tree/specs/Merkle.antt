@@ -1,9 +1,10 @@
 -- RFC 6962, section 2.1: the Merkle hash tree over 2 ^ d entries d(0), d(1), .., which are byte strings; and openings, which lead
 -- from an entry to a root by sibling digests. The hash function `digest` is a parameter; a digest is thirty-two bytes.
 -- A level counts from the leaves, which are level 0; a place counts from the left within its level.
+use mathlib.Core.Path.{_≡_}
 use mathlib.Core.List.{List, [], _∷_, _++_}
 use Prim.Native.Nat.{ℕ, zero, suc, _+_, _-_, _*_, _/_, _%_, _^_}
-use lib.ListN.{getD, take, drop}
+use lib.ListN.{length, getD, take, drop}
 
 -- ---- the strings that are hashed
 
@@ -29,6 +30,11 @@ block es j p = take (2 ^ j) (drop (p * 2 ^ j) es)
 -- the other child of p's parent: p + 1 where p is even, p - 1 where it is odd
 abbrev pub sibling : ℕ → ℕ
 sibling p = p + 1 - 2 * (p % 2)
+
+-- every string of the list has thirty-two bytes, as a digest has
+abbrev pub Long : List (List ℕ) → Type 0
+Long [] = Unit {0}
+Long (d ∷ ds) = (length d ≡ 32) × Long ds
 
 module _ (digest : List ℕ → List ℕ) where
   -- ---- the Merkle tree hash MTH(D[2 ^ d])

@@ -12,11 +12,19 @@ ghost use Rattle.tree.specs.Entry.{entry, entries};
 ghost use Rattle.tree.specs.Heap.{IsHeap, heapPath};
 ghost use Rattle.tree.specs.Layout.{part, openingSize, openedValue, openedRoot, flat, ownOpening, ownOpenings};
 
-// The digest of the leaf with a value at a position.
-fn leaf(position: usize, value: u32) -> [u8; 32]
-    ensures { λ r. ⌜ r ≡ digest (leafString (entry position value)) ⌝ }
+// The digest of the leaf for a value's bytes at a position.
+fn leaf(position: usize, value: &[u8]) -> [u8; 32]
+    requires { ⌜ length (now value) ≤ 16 ⌝ }
+    ensures { λ r. ⌜ r ≡ digest (leafString (entry position (now (value .entry)))) ⌝ }
 {
-    hash::leaf(numbers::bytes_of(value))
+    hash::leaf(numbers::bytes_of(position), value)
+}
+
+// The digest of the leaf for a number at a position.
+fn number_leaf(position: usize, number: u32) -> [u8; 32]
+    ensures { λ r. ⌜ r ≡ digest (leafString (entry position (bytes4 number))) ⌝ }
+{
+    leaf(position, &numbers::bytes_of(number as usize))
 }
 
 // The digest at a level and a place of the tree over the values.
@@ -25,7 +33,7 @@ fn subtree(values: &[u32], level: usize, place: usize) -> [u8; 32]
     ensures { λ r. ⌜ r ≡ subtreeOf digest (entries (now (values .entry))) level place ⌝ }
 {
     if level == 0 {
-        return leaf(place, values[place]);
+        return number_leaf(place, values[place]);
     }
     let l = subtree(values, level - 1, 2 * place);
     let r = subtree(values, level - 1, 2 * place + 1);
@@ -50,7 +58,7 @@ fn nodes_of(values: &[u32], depth: usize) -> [[u8; 32]; 512]
     let count = values.len();
     let mut i = 0;
     while i < count {
-        let d = leaf(i, values[i]);
+        let d = number_leaf(i, values[i]);
         nodes[count + i] = d;
         i += 1;
     }
@@ -96,7 +104,7 @@ pub fn opening_root(s: &[u8], at: usize, depth: usize, position: usize) -> [u8; 
     requires { ⌜ at + openingSize depth ≤ length (now s) ⌝ }
     ensures { λ r. ⌜ r ≡ openedRoot digest (now (s .entry)) at depth position ⌝ }
 {
-    let mut own = leaf(position, value_at(s, at));
+    let mut own = leaf(position, &s[at..at + 4]);
     let mut place = position;
     let mut next = at + 4;
     let mut left = depth;

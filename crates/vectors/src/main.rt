@@ -40,10 +40,11 @@ fn main() {
         b"sha256 two blocks ",
         hash::digest(b"abcdbcdecdefdefgefghfghighijhijkijkljklmklmnlmnomnopnopq"),
     );
-    let left = hash::leaf([1, 0, 0, 0]);
-    let right = hash::leaf([2, 0, 0, 0]);
-    show_digest(b"leaf 1 ", left);
-    show_digest(b"node 1 2 ", hash::node(left, right));
+    let left = hash::leaf([0, 0, 0, 0], &[1, 0, 0, 0]);
+    let right = hash::leaf([1, 0, 0, 0], &[2, 0, 0, 0]);
+    show_digest(b"leaf 1 at 0 ", left);
+    show_digest(b"leaf 2 at 1 ", right);
+    show_digest(b"node of both ", hash::node(left, right));
     let values = [5u32, 2013265920, 0, 1, 2, 3, 4, 4294967295];
     show_digest(b"root of 8 ", tree::root(&values, 3));
     show_numbers(

@@ -8,6 +8,7 @@ use native.Mathlib.Omega.{arith}
 use borrow.Author.Tests.{ltb-true}
 use lib.Dec.{eqb}
 use lib.ListN.{length}
+use Rattle.numbers.specs.Numbers.{bytes4}
 use Rattle.numbers.proofs.Bytes.{length-numbers}
 use Rattle.numbers.specs.Equality.{sameBytes}
 use Rattle.field.specs.BabyBear.{babyBear, p, F, val, ofℕ}
@@ -78,8 +79,8 @@ module _ (m n k l t challenge : ℕ) (items positions item openings : List ℕ)
         ≡ leads (itemSize m n) (itemFront m n) (openingSize (depth k)) l (depth k) items positions item openings q i
     unfolding itemOf
     leads-same = ap₂ sameBytes
-        (ap (λ (o : Opening F). openingRoot digest (entry (numberAt positions q) (val (o .value))) (numberAt positions q) (o .siblings)) (openingAt-readShown fp m n k l t challenge items positions item openings q i g h)
-        ∙ ap (λ (v : ℕ). openingRoot digest (entry (numberAt positions q) v) (numberAt positions q) (openedPath openings place (depth k))) (val-small value-below))
+        (ap (λ (o : Opening F). openingRoot digest (entry (numberAt positions q) (bytes4 (val (o .value)))) (numberAt positions q) (o .siblings)) (openingAt-readShown fp m n k l t challenge items positions item openings q i g h)
+        ∙ ap (λ (v : ℕ). openingRoot digest (entry (numberAt positions q) (bytes4 v)) (numberAt positions q) (openedPath openings place (depth k))) (val-small value-below))
         (root-read m n l items item i h)
 
     -- The opened value, as a number of the buffer.

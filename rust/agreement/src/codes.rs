@@ -1,4 +1,4 @@
-//! Points, codewords and digests.
+//! Points, codewords, entries and digests.
 
 use crate::text::{elements, list, numbers, Equation, File};
 use lomvuze_reference::field::Element;
@@ -61,6 +61,28 @@ use Rattle.agreement.specs.Points.{points-2, points-4, points-8, points-
 "
     .to_string();
     File { name: "Codewords", head, equations }
+}
+
+/// Entries at positions that take one byte to four.
+pub fn entries() -> File {
+    let random = &mut Random::new(6);
+    let equations = [0, 255, 256, 258, 65_535, 65_536, 1 << 24, u32::MAX as usize].map(|position| {
+        let value = random.element();
+        Equation {
+            left: format!("entry {position} (bytes4 {})", value.number()),
+            right: list(code::entry(position, value)),
+            unfolding: "entry".to_string(),
+            proof: "refl".to_string(),
+        }
+    });
+    let head = "-- Entries of a tree: the position, then the value.
+use mathlib.Core.Path.{_≡_, refl}
+use mathlib.Core.List.{List, [], _∷_}
+use Rattle.numbers.specs.Numbers.{bytes4}
+use Rattle.tree.specs.Entry.{entry}
+"
+    .to_string();
+    File { name: "Entries", head, equations: equations.into() }
 }
 
 /// The witness whose tree is worked out digest by digest, since a digest takes the prover most of a second.

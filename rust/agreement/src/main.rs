@@ -21,6 +21,7 @@ fn main() -> io::Result<()> {
         claims::combinations(),
         claims::quotients(),
         codes::codewords(),
+        codes::entries(),
         codes::digests(),
         calls::answers(),
     ];

@@ -167,9 +167,10 @@ pub fn codeword_at(w: &[u32], points: &[u32], out: &mut [u32]) {
 
 // ---- The tree over 256 leaves
 
-fn leaf(value: u32) -> [u8; 32] {
-    let mut message = [0; 5];
-    message[1..].copy_from_slice(&value.to_le_bytes());
+fn leaf(position: usize, value: u32) -> [u8; 32] {
+    let mut message = [0; 9];
+    message[1..5].copy_from_slice(&(position as u32).to_le_bytes());
+    message[5..].copy_from_slice(&value.to_le_bytes());
     sha256(&message)
 }
 
@@ -180,14 +181,18 @@ fn node(left: &[u8; 32], right: &[u8; 32]) -> [u8; 32] {
     sha256(&message)
 }
 
-/// By recursion, without a buffer.
 #[inline(never)]
 pub fn root(values: &[u32]) -> [u8; 32] {
+    root_from(0, values)
+}
+
+/// The digest over values that stand at the positions from `first` on, by recursion, without a buffer.
+fn root_from(first: usize, values: &[u32]) -> [u8; 32] {
     match values {
-        [value] => leaf(*value),
+        [value] => leaf(first, *value),
         _ => {
             let (left, right) = values.split_at(values.len() / 2);
-            node(&root(left), &root(right))
+            node(&root_from(first, left), &root_from(first + left.len(), right))
         }
     }
 }
@@ -196,7 +201,7 @@ pub fn root(values: &[u32]) -> [u8; 32] {
 fn nodes(values: &[u32; 256]) -> [[u8; 32]; 512] {
     let mut nodes = [[0; 32]; 512];
     for (i, value) in values.iter().enumerate() {
-        nodes[256 + i] = leaf(*value);
+        nodes[256 + i] = leaf(i, *value);
     }
     for n in (1..256).rev() {
         nodes[n] = node(&nodes[2 * n], &nodes[2 * n + 1]);
@@ -220,7 +225,7 @@ pub fn openings(values: &[u32; 256], positions: impl Iterator<Item = usize>, out
 
 /// Where an opening leads.
 pub fn leads_to(opening: &[u8], position: usize) -> [u8; 32] {
-    let mut own = leaf(u32::from_le_bytes(opening[..4].try_into().unwrap()));
+    let mut own = leaf(position, u32::from_le_bytes(opening[..4].try_into().unwrap()));
     for (level, sibling) in opening[4..].chunks_exact(32).enumerate() {
         let sibling = sibling.try_into().unwrap();
         own = if position >> level & 1 == 0 { node(&own, sibling) } else { node(sibling, &own) };

@@ -146,7 +146,8 @@ pub struct Sheet {
     pub witnesses: Vec<Witness>,
 }
 
-/// The value of a codeword at a position, and the way from there to the root.
+/// The value of a codeword at a position, and the way from there to the root. The position is hashed with the value,
+/// and is no part of the opening.
 #[derive(Clone, PartialEq, Eq, Hash, Debug)]
 pub struct Opening {
     /// The value.

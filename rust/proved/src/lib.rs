@@ -16,7 +16,7 @@ mod exported {
         pub fn lomvuze_test_chain_add(x: u32, y: u32, n: u32) -> u32;
 
         pub fn lomvuze_test_digest(message: *const u8, length: usize, out: *mut u8) -> u32;
-        pub fn lomvuze_test_leaf(value: *const u8, out: *mut u8);
+        pub fn lomvuze_test_leaf(position: *const u8, value: *const u8, length: usize, out: *mut u8) -> u32;
         pub fn lomvuze_test_node(left: *const u8, right: *const u8, out: *mut u8);
 
         pub fn lomvuze_test_root(values: *const u32, count: usize, depth: usize, out: *mut u8) -> u32;
@@ -97,10 +97,10 @@ pub fn digest(message: &[u8]) -> Digest {
     out
 }
 
-pub fn leaf(value: &[u8; 4]) -> Digest {
-    let mut out = [0; 32];
-    unsafe { lomvuze_test_leaf(value.as_ptr(), out.as_mut_ptr()) };
-    out
+/// Writes the digest of the leaf of a position and a value. Answers 0, or 1 where it refuses a value of more than
+/// sixteen bytes.
+pub fn leaf(position: &[u8; 4], value: &[u8], out: &mut Digest) -> u32 {
+    unsafe { lomvuze_test_leaf(position.as_ptr(), value.as_ptr(), value.len(), out.as_mut_ptr()) }
 }
 
 pub fn node(left: &Digest, right: &Digest) -> Digest {

@@ -1,9 +1,11 @@
 //! The proved SHA-256, leaf and inner node beside the reference.
 
 use lomvuze_proved as proved;
-use lomvuze_reference::sha256::digest;
+use lomvuze_reference::sha256::{digest, Digest};
 use lomvuze_reference::tree;
 use lomvuze_samples::Random;
+
+const MARK: Digest = [0xAA; 32];
 
 #[test]
 fn short_messages() {
@@ -30,9 +32,22 @@ fn long_messages() {
 #[test]
 fn leaves() {
     let mut random = Random::new(3);
-    for _ in 0..5_000 {
-        let value = random.number().to_le_bytes();
-        assert_eq!(proved::leaf(&value), tree::leaf(&value));
+    for length in 0..=16 {
+        for _ in 0..500 {
+            let (position, value) = (random.number().to_le_bytes(), random.bytes(length));
+            let mut out = MARK;
+            assert_eq!(proved::leaf(&position, &value, &mut out), 0);
+            assert_eq!(out, tree::leaf(&[&position[..], &value].concat()), "{length} bytes");
+        }
+    }
+}
+
+#[test]
+fn longer_values_are_refused() {
+    for length in (17..=130).chain([1 << 20]) {
+        let mut out = MARK;
+        assert_eq!(proved::leaf(&[1, 2, 3, 4], &vec![7; length], &mut out), 1, "{length} bytes");
+        assert_eq!(out, MARK);
     }
 }
 

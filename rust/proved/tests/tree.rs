@@ -7,8 +7,13 @@ use lomvuze_samples::Random;
 
 const MARK: Digest = [0xAA; 32];
 
-fn entries(values: &[u32]) -> Vec<[u8; 4]> {
-    values.iter().map(|value| value.to_le_bytes()).collect()
+/// The entry of a value at a position, of which it has the lowest four bytes.
+fn entry(position: usize, value: &[u8]) -> Vec<u8> {
+    [&(position as u32).to_le_bytes(), value].concat()
+}
+
+fn entries(values: &[u32]) -> Vec<Vec<u8>> {
+    values.iter().enumerate().map(|(position, value)| entry(position, &value.to_le_bytes())).collect()
 }
 
 fn values(random: &mut Random, depth: usize) -> Vec<u32> {
@@ -20,6 +25,12 @@ fn parts(opening: &[u8]) -> (&[u8], Vec<Digest>) {
     (&opening[..4], opening[4..].chunks(32).map(|digest| digest.try_into().unwrap()).collect())
 }
 
+fn proved_opening(values: &[u32], depth: usize, position: usize) -> Vec<u8> {
+    let mut opening = vec![0xAA; 4 + 32 * depth];
+    assert_eq!(proved::opening(values, depth, position, &mut opening), 0);
+    opening
+}
+
 fn proved_leads_to(opening: &[u8], position: usize) -> Digest {
     let mut out = MARK;
     assert_eq!(proved::leads_to(opening, (opening.len() - 4) / 32, position, &mut out), 0);
@@ -28,7 +39,7 @@ fn proved_leads_to(opening: &[u8], position: usize) -> Digest {
 
 fn reference_leads_to(opening: &[u8], position: usize) -> Digest {
     let (value, path) = parts(opening);
-    tree::leads_to(value, position, &path)
+    tree::leads_to(&entry(position, value), position, &path)
 }
 
 #[test]
@@ -47,16 +58,50 @@ fn roots() {
 #[test]
 fn openings_of_every_position() {
     let mut random = Random::new(2);
-    for depth in 3..=8 {
+    for depth in 0..=8 {
         let values = values(&mut random, depth);
         let entries = entries(&values);
         let root = tree::root(&entries);
-        for position in 0..values.len() {
-            let mut opening = vec![0xAA; 4 + 32 * depth];
-            assert_eq!(proved::opening(&values, depth, position, &mut opening), 0);
-            assert_eq!(parts(&opening), (&entries[position][..], tree::path(position, &entries)));
+        for (position, value) in values.iter().enumerate() {
+            let opening = proved_opening(&values, depth, position);
+            assert_eq!(parts(&opening), (&value.to_le_bytes()[..], tree::path(position, &entries)));
             assert_eq!(proved_leads_to(&opening, position), root);
         }
+    }
+}
+
+/// An opening leads to the root from its own position alone: also where all values are equal, and also where another
+/// position, beyond the tree, gives the same sides.
+#[test]
+fn an_opening_at_every_position() {
+    let mut random = Random::new(4);
+    for depth in 0..=8 {
+        for values in [values(&mut random, depth), vec![7; 1 << depth]] {
+            let root = tree::root(&entries(&values));
+            let position = random.below(values.len());
+            let opening = proved_opening(&values, depth, position);
+            for other in 0..2 * values.len() {
+                let led = proved_leads_to(&opening, other);
+                assert_eq!(led, reference_leads_to(&opening, other));
+                assert_eq!(led == root, other == position, "depth {depth}, {position} at {other}");
+            }
+        }
+    }
+}
+
+/// Of a position of 2^32 or more, the lowest four bytes stand in the leaf, and the lowest bits give the sides.
+#[test]
+fn long_positions() {
+    let mut random = Random::new(5);
+    for _ in 0..500 {
+        let depth = random.below(9);
+        let values = values(&mut random, depth);
+        let position = random.below(values.len());
+        let opening = proved_opening(&values, depth, position);
+        let higher = (1 + random.below(u32::MAX as usize)) << 32;
+        assert_eq!(proved_leads_to(&opening, position + higher), tree::root(&entries(&values)));
+        let any = random.bits() as usize;
+        assert_eq!(proved_leads_to(&opening, any), reference_leads_to(&opening, any));
     }
 }
 
@@ -65,11 +110,10 @@ fn openings_of_every_position() {
 fn damaged_openings() {
     let mut random = Random::new(3);
     for _ in 0..500 {
-        let depth = 3 + random.below(6);
+        let depth = random.below(9);
         let values = values(&mut random, depth);
         let position = random.below(values.len());
-        let mut opening = vec![0; 4 + 32 * depth];
-        assert_eq!(proved::opening(&values, depth, position, &mut opening), 0);
+        let mut opening = proved_opening(&values, depth, position);
         let root = proved_leads_to(&opening, position);
 
         let byte = random.below(opening.len());

@@ -18,10 +18,11 @@ use std::env;
 use world::{Target, World};
 
 /// The theorems, as file and name.
-const THEOREMS: [(&str, &str); 4] = [
+const THEOREMS: [(&str, &str); 5] = [
     ("theory/proofs/QuotientStated", "quotient-theorem"),
     ("theory/proofs/FirstStatement", "first-statement"),
     ("theory/proofs/SecondStatement", "second-statement"),
+    ("tree/proofs/Positions", "opening-fixes-position"),
     ("roundtrip/proofs/RoundTrip", "read-written"),
 ];
 

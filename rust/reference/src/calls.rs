@@ -217,7 +217,7 @@ pub fn verify(
         let roots: Vec<Digest> = items.iter().map(|item| item.root).chain([new.root]).collect();
         for (position, shown) in positions.iter().zip(openings.chunks(l + 1)) {
             for (opening, root) in shown.iter().zip(&roots) {
-                let entry = opening.value.number().to_le_bytes();
+                let entry = code::entry(*position, opening.value);
                 check(8, tree::leads_to(&entry, *position, &opening.path) == *root)?;
             }
         }

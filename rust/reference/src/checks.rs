@@ -203,7 +203,6 @@ pub(crate) fn item_bytes(item: &Item) -> Vec<u8> {
 }
 
 pub(crate) fn opening_bytes(codeword: &[Element], position: usize) -> Vec<u8> {
-    let entries = code::entries(codeword);
-    let path = tree::path(position, &entries);
-    [entries[position].to_vec(), path.concat()].concat()
+    let path = tree::path(position, &code::entries(codeword));
+    [element_bytes(&[codeword[position]]), path.concat()].concat()
 }

@@ -21,9 +21,17 @@ pub fn codeword(w: &[Element]) -> Vec<Element> {
         .collect()
 }
 
-/// The entries of the tree over a codeword: each value in four bytes, lowest first.
-pub fn entries(codeword: &[Element]) -> Vec<[u8; 4]> {
-    codeword.iter().map(|value| value.number().to_le_bytes()).collect()
+/// The entry of a value: its position in four bytes, lowest first, followed by the value, likewise.
+pub fn entry(position: usize, value: Element) -> [u8; 8] {
+    let mut entry = [0; 8];
+    entry[..4].copy_from_slice(&(position as u32).to_le_bytes());
+    entry[4..].copy_from_slice(&value.number().to_le_bytes());
+    entry
+}
+
+/// The entries of the tree over a codeword.
+pub fn entries(codeword: &[Element]) -> Vec<[u8; 8]> {
+    codeword.iter().enumerate().map(|(position, value)| entry(position, *value)).collect()
 }
 
 /// The root of the tree over a witness's codeword.

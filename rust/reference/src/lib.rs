@@ -1,4 +1,4 @@
-//! Lomvuze a second time: slow, obvious, and written from the standards and the scope paper alone.
+//! Lomvuze a second time: slow, obvious, and written from the standards, the scope paper and the changes to it alone.
 //!
 //! The proved library is compared with this one. Read the modules in this order:
 //!

@@ -1,5 +1,5 @@
-//! Hash trees over a list of entries: RFC 6962, section 2.1. An entry is a string of bytes; in this library
-//! it is a value in four bytes, lowest first.
+//! Hash trees over a list of entries: RFC 6962, section 2.1. An entry is a string of bytes; that of a value in a
+//! codeword names its position ([`code::entry`](crate::code::entry)).
 
 use crate::sha256::{digest, Digest};
 
@@ -48,8 +48,8 @@ pub fn path<E: AsRef<[u8]>>(position: usize, entries: &[E]) -> Vec<Digest> {
     }
 }
 
-/// Where an opening leads, in a tree over a power of two of entries: the own digest is the left child at
-/// level j where bit j of the position is 0.
+/// Where a path leads from an entry at a position, in a tree over a power of two of entries: the own digest is the
+/// left child at level j where bit j of the position is 0.
 pub fn leads_to(entry: &[u8], position: usize, path: &[Digest]) -> Digest {
     let mut own = leaf(entry);
     for (level, sibling) in path.iter().enumerate() {

@@ -1,5 +1,7 @@
-//! The vectors of FIPS 180-4 and of RFC 6962 trees.
+//! The vectors of FIPS 180-4 and of RFC 6962 trees, and trees over values, whose entries name their positions.
 
+use lomvuze_reference::code::{codeword, entries, entry};
+use lomvuze_reference::field::{Element, P, ZERO};
 use lomvuze_reference::sha256::{digest, initial_value, round_constants, Digest};
 use lomvuze_reference::tree::{leads_to, leaf, node, path, root};
 
@@ -80,15 +82,32 @@ fn published_path() {
     assert_eq!(path(5, &entries).iter().map(|digest| hex(digest)).collect::<Vec<_>>(), expected);
 }
 
-/// Trees of two and four entries, with each hashed string written out.
+// ---- Trees over values
+
+fn element(number: u32) -> Element {
+    Element::new(number).unwrap()
+}
+
+/// Position and value take four bytes each, lowest first.
+#[test]
+fn entries_by_hand() {
+    assert_eq!(entry(0, element(5)), [0, 0, 0, 0, 5, 0, 0, 0]);
+    assert_eq!(entry(258, element(P - 1)), [2, 1, 0, 0, 0, 0, 0, 0x78]);
+    assert_eq!(entry(0x01020304, element(0x05060708)), [4, 3, 2, 1, 8, 7, 6, 5]);
+    let all = entries(&codeword(&[vec![element(7)], vec![ZERO; 63]].concat()));
+    assert_eq!(all.len(), 256);
+    assert_eq!([all[0], all[255]], [[0, 0, 0, 0, 7, 0, 0, 0], [255, 0, 0, 0, 7, 0, 0, 0]]);
+}
+
+/// Trees over two and four values, with each hashed string written out.
 #[test]
 fn trees_by_hand() {
-    let entries = [[1, 0, 0, 0], [2, 0, 0, 0], [3, 0, 0, 0], [0, 0, 0, 0x78]];
+    let entries = entries(&[1, 2, 3, P - 1].map(element));
     let leaves: Vec<Digest> = vec![
-        digest(&[0x00, 1, 0, 0, 0]),
-        digest(&[0x00, 2, 0, 0, 0]),
-        digest(&[0x00, 3, 0, 0, 0]),
-        digest(&[0x00, 0, 0, 0, 0x78]),
+        digest(&[0x00, 0, 0, 0, 0, 1, 0, 0, 0]),
+        digest(&[0x00, 1, 0, 0, 0, 2, 0, 0, 0]),
+        digest(&[0x00, 2, 0, 0, 0, 3, 0, 0, 0]),
+        digest(&[0x00, 3, 0, 0, 0, 0, 0, 0, 0x78]),
     ];
     let joined = |left: &Digest, right: &Digest| {
         let mut message = vec![0x01];
@@ -106,13 +125,20 @@ fn trees_by_hand() {
     assert_eq!(path(2, &entries), [leaves[3], left]);
 }
 
+/// An opening leads to the root at its own position, and elsewhere at every other one: also where all values are
+/// equal, and also at a position that gives the same sides.
 #[test]
 fn openings_lead_to_the_root() {
-    let entries: Vec<[u8; 4]> = (0u32..16).map(|i| (i * 77).to_le_bytes()).collect();
-    for position in 0..16 {
-        let path = path(position, &entries);
-        assert_eq!(leads_to(&entries[position], position, &path), root(&entries));
-        assert_ne!(leads_to(&entries[position], position ^ 1, &path), root(&entries));
-        assert_ne!(leads_to(&entries[position ^ 1], position, &path), root(&entries));
+    for values in [[7; 16].map(element), std::array::from_fn(|i| element(77 * i as u32))] {
+        let entries = entries(&values);
+        for (position, value) in values.into_iter().enumerate() {
+            let path = path(position, &entries);
+            for other in 0..32 {
+                let led = leads_to(&entry(other, value), other, &path);
+                assert_eq!(led == root(&entries), other == position, "{position} at {other}");
+            }
+            let another = value + element(1);
+            assert_ne!(leads_to(&entry(position, another), position, &path), root(&entries));
+        }
     }
 }

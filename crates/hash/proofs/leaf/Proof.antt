@@ -1,6 +1,10 @@
--- `leaf` meets its contract: the message is the byte 0x00 and the value.
+-- `leaf` meets its contract: the message is the byte 0x00, the position and the value.
 -- Assumes nothing.
-use mathlib.Core.Path.{ap, _∙_}
+use mathlib.Core.Path.{sym, ap, _∙_}
+use Prim.Native.Nat.{_+_}
+use native.Mathlib.Omega.{arith}
+use lib.ListN.{length}
+use lib.Seq.{length-take-le}
 use borrow.Author.Needs.{needs}
 use Rattle.hash.specs.Sha256.{digest}
 use Rattle.hash.proofs.Tree.{leaf-message}
@@ -19,17 +23,34 @@ slice-aggregate-copy-2 c = search needs
 copy-requires : tie.Need-copy-requires
 copy-requires c κs = search needs
 
+slice-aggregate-copy-3 : tie.Need-slice-aggregate-copy-3
+slice-aggregate-copy-3 c = search needs
+
+copy-requires-2 : tie.Need-copy-requires-2
+copy-requires-2 c κs = search needs
+
+add-msg : tie.Need-add-msg
+add-msg c = search needs
+
+array-share-prefix-msg : tie.Need-array-share-prefix-msg
+array-share-prefix-msg c = search needs
+
 slice-aggregate-digest : tie.Need-slice-aggregate-digest
-slice-aggregate-digest c = search needs
+slice-aggregate-digest c = sym (length-take-le _ (c .before .before .copy2 .last .0) (search needs))
 
 digest-requires : tie.Need-digest-requires
-digest-requires c κs = search needs
+digest-requires c κs =
+    let after-value = c .before .before in
+    let a = after-value .before .before .before .before .before .before .before .args in
+    omega (arith, length-take-le (5 + length (a .value .now)) (after-value .copy2 .last .0) (search needs))
 
 returns : tie.Need-returns
 returns c =
-    let after-copy = c .before .before .before in
-    let at-start = after-copy .before .before .before in
-    c .digest .ensures ∙ ap digest (leaf-message (at-start .args .t1) (after-copy .copy .last .0) (search needs) (after-copy .copy .ensures))
+    let after-value = c .before .before .before in
+    let after-position = after-value .before .before .before in
+    let a = after-position .before .before .before .before .args in
+    c .digest .ensures
+    ∙ ap digest (leaf-message (a .t1) (a .value .now) (after-position .copy .last .0) (after-value .copy2 .last .0) (search needs) (after-position .copy .ensures) (after-value .copy2 .ensures))
 
 pub leaf-spec : {M : Type 1} → statement M
 leaf-spec =
@@ -39,6 +60,10 @@ leaf-spec =
     slice-aggregate-copy
     slice-aggregate-copy-2
     copy-requires
+    slice-aggregate-copy-3
+    copy-requires-2
+    add-msg
+    array-share-prefix-msg
     slice-aggregate-digest
     digest-requires
     returns)

@@ -17,7 +17,7 @@ use Rattle.tree.proofs.Levels.{place-below, left-fits, right-fits, subt
 use Rattle.tree.proofs.subtree.Reads as subtree
 use Rattle.tree.proofs.subtree.Kinds as subtree-kinds
 use Rattle.tree.proofs.+subtree.Lts-subtree as subtree-lts
-use Rattle.tree.proofs.leaf.Reads as leaf-reads
+use Rattle.tree.proofs.number_leaf.Reads as leaf-reads
 use Rattle.hash.proofs.node.Reads as node-reads
 use Rattle.tree.proofs.+subtree.{statement}
 use Rattle.tree.proofs.+subtree.Tie.{close}
@@ -32,19 +32,19 @@ abbrev subtree-below : ℕ → In 1 subtree-kinds.ps
 subtree-below t = and 1 subtree-kinds.ps (falls 1 subtree-kinds.ps _<_ μ-subtree t) subtree.Pre
 
 module _ (t : ℕ) where
-  mul-leaf : subtree-lts.Need-mul-leaf (leaf-reads.Asked, leaf-reads.Learnt, subtree-below t, subtree.Post, node-reads.Asked, node-reads.Learnt) (subtree-at t) subtree.Post
-  mul-leaf c = omega (arith, place-below _ _ _ (c .before .before .pre .1), c .before .before .good .0)
+  mul-number-leaf : subtree-lts.Need-mul-number-leaf (leaf-reads.Asked, leaf-reads.Learnt, subtree-below t, subtree.Post, node-reads.Asked, node-reads.Learnt) (subtree-at t) subtree.Post
+  mul-number-leaf c = omega (arith, place-below _ _ _ (c .before .before .pre .1), c .before .before .good .0)
 
-  shared-slice-read-leaf : subtree-lts.Need-shared-slice-read-leaf (leaf-reads.Asked, leaf-reads.Learnt, subtree-below t, subtree.Post, node-reads.Asked, node-reads.Learnt) (subtree-at t) subtree.Post
-  shared-slice-read-leaf c = place-below _ _ _ (c .before .before .before .pre .1)
+  shared-slice-read-number-leaf : subtree-lts.Need-shared-slice-read-number-leaf (leaf-reads.Asked, leaf-reads.Learnt, subtree-below t, subtree.Post, node-reads.Asked, node-reads.Learnt) (subtree-at t) subtree.Post
+  shared-slice-read-number-leaf c = place-below _ _ _ (c .before .before .before .pre .1)
 
-  leaf-requires : subtree-lts.Need-leaf-requires (leaf-reads.Asked, leaf-reads.Learnt, subtree-below t, subtree.Post, node-reads.Asked, node-reads.Learnt) (subtree-at t) subtree.Post
-  leaf-requires c κs = tt
+  number-leaf-requires : subtree-lts.Need-number-leaf-requires (leaf-reads.Asked, leaf-reads.Learnt, subtree-below t, subtree.Post, node-reads.Asked, node-reads.Learnt) (subtree-at t) subtree.Post
+  number-leaf-requires c κs = tt
 
   returns : subtree-lts.Need-returns (leaf-reads.Asked, leaf-reads.Learnt, subtree-below t, subtree.Post, node-reads.Asked, node-reads.Learnt) (subtree-at t) subtree.Post
   returns c =
       let a = c .before .before .before .before .args in
-      c .leaf .ensures
+      c .number-leaf .ensures
       ∙ ap (λ (e : List ℕ). digest (leafString e)) (sym (entry-at (now (a .values)) (a .place) (place-below _ _ _ (c .before .before .before .before .pre .1))))
       ∙ sym (subtree-leaf digest (entries (now (a .values))) (a .place))
       ∙ ap (λ (j : ℕ). merkle.subtree digest (entries (now (a .values))) j (a .place)) (sym (c .before .before .if1 .taken))
@@ -82,9 +82,9 @@ module _ (t : ℕ) where
 
 pub +subtree-spec : {M : Type 1} → statement M
 +subtree-spec = close μ-subtree λ t. subtree-lts.spec (leaf-reads.Asked, leaf-reads.Learnt, subtree-below t, subtree.Post, node-reads.Asked, node-reads.Learnt) (subtree-at t) subtree.Post
-    (mul-leaf t)
-    (shared-slice-read-leaf t)
-    (leaf-requires t)
+    (mul-number-leaf t)
+    (shared-slice-read-number-leaf t)
+    (number-leaf-requires t)
     (returns t)
     (sub-subtree t)
     (mul-subtree t)

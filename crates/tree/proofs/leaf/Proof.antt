@@ -1,7 +1,7 @@
 -- `tree::leaf` meets its contract: here alone the code sees what an entry is.
 use borrow.Author.Needs.{needs}
 use mathlib.Core.Path.{ap, _∙_}
-use mathlib.Core.List.{List}
+use mathlib.Core.List.{List, _++_}
 use Prim.Native.Nat.{ℕ}
 use Rattle.hash.specs.Sha256.{digest}
 use Rattle.tree.specs.Merkle.{leafString}
@@ -17,7 +17,8 @@ leaf-requires c κs = search needs
 
 returns : tie.Need-returns
 unfolding entry
-returns c = c .leaf .ensures ∙ ap (λ (e : List ℕ). digest (leafString e)) (c .before .bytes-of .ensures)
+returns c =
+    c .leaf .ensures ∙ ap (λ (p : List ℕ). digest (leafString (p ++ c .before .before .before .args .value .now))) (c .before .bytes-of .ensures)
 
 pub leaf-spec : {M : Type 1} → statement M
 leaf-spec = tie.close (tie.spec bytes-of-requires leaf-requires returns)

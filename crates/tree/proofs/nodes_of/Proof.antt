@@ -31,14 +31,14 @@ abbrev μ-loop2 : tie.MeasureT-loop2
 loop-holds : tie.Need-loop-holds Inv-loop μ-loop Inv-loop2 μ-loop2
 loop-holds c = (omega (arith, c .before .pre .0, few (c .before .args .depth) (c .before .pre .1)), omega arith, refl, below-none _)
 
-mul-leaf : tie.Need-mul-leaf Inv-loop μ-loop Inv-loop2 μ-loop2
-mul-leaf c = omega arith
+mul-number-leaf : tie.Need-mul-number-leaf Inv-loop μ-loop Inv-loop2 μ-loop2
+mul-number-leaf c = omega arith
 
-shared-slice-read-leaf : tie.Need-shared-slice-read-leaf Inv-loop μ-loop Inv-loop2 μ-loop2
-shared-slice-read-leaf c = omega arith
+shared-slice-read-number-leaf : tie.Need-shared-slice-read-number-leaf Inv-loop μ-loop Inv-loop2 μ-loop2
+shared-slice-read-number-leaf c = omega arith
 
-leaf-requires : tie.Need-leaf-requires Inv-loop μ-loop Inv-loop2 μ-loop2
-leaf-requires c κs = tt
+number-leaf-requires : tie.Need-number-leaf-requires Inv-loop μ-loop Inv-loop2 μ-loop2
+number-leaf-requires c κs = tt
 
 add-nodes : tie.Need-add-nodes Inv-loop μ-loop Inv-loop2 μ-loop2
 add-nodes c = omega arith
@@ -63,9 +63,9 @@ loop-again c =
     let fits : length vs + l .i < length (l .nodes) = omega arith in (
       l .inv .0,
       omega arith,
-      length-set (l .nodes) (length vs + l .i) (c .leaf .result) ∙ l .inv .2,
-      leaf-step digest (entries vs) (length vs) (l .i) (l .nodes) (c .leaf .result) fits
-          (c .leaf .ensures ∙ ap (λ (e : List ℕ). digest (leafString e)) (sym (entry-at vs (l .i) (omega arith))))
+      length-set (l .nodes) (length vs + l .i) (c .number-leaf .result) ∙ l .inv .2,
+      leaf-step digest (entries vs) (length vs) (l .i) (l .nodes) (c .number-leaf .result) fits
+          (c .number-leaf .ensures ∙ ap (λ (e : List ℕ). digest (leafString e)) (sym (entry-at vs (l .i) (omega arith))))
           (l .inv .3),
     )
 
@@ -150,9 +150,9 @@ nodes-of-spec =
     Inv-loop2
     μ-loop2
     loop-holds
-    mul-leaf
-    shared-slice-read-leaf
-    leaf-requires
+    mul-number-leaf
+    shared-slice-read-number-leaf
+    number-leaf-requires
     add-nodes
     mul-nodes
     array-set-from-nodes

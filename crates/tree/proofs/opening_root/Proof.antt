@@ -3,13 +3,15 @@ use mathlib.Core.Path.{_≡_, sym, ap, _∙_}
 use mathlib.Core.List.{List}
 use Prim.Native.Nat.{ℕ, _+_, _-_, _*_, _/_, _%_, _≤_}
 use native.Mathlib.Omega.{arith}
-use lib.ListN.{length}
+use lib.ListN.{length, drop, length-take}
 use denote.Ref.{now}
+use Rattle.numbers.specs.Numbers.{bytes4}
 use Rattle.hash.specs.Sha256.{digest}
 use Rattle.tree.specs.Merkle.{leafString, joined, climb}
 use Rattle.tree.specs.Entry.{entry}
-use Rattle.tree.specs.Layout.{digests, openedRoot}
+use Rattle.tree.specs.Layout.{part, digests, openedValue, openedRoot}
 use Rattle.tree.proofs.Written.{climb-step, climb-end}
+use Rattle.tree.proofs.ReadBack.{value-bytes}
 use Rattle.tree.proofs.opening_root.Statement.{statement}
 use Rattle.tree.proofs.opening_root.Tie as tie
 
@@ -20,21 +22,36 @@ Inv-loop s at depth position own₀ place₀ next₀ left₀ own place next left
 abbrev μ-loop : tie.MeasureT-loop
 μ-loop s at depth position own₀ place₀ next₀ left₀ own place next left = left
 
-value-at-requires : tie.Need-value-at-requires Inv-loop μ-loop
-value-at-requires c κs = omega arith
+add-leaf : tie.Need-add-leaf Inv-loop μ-loop
+add-leaf c = omega arith
+
+sub-leaf : tie.Need-sub-leaf Inv-loop μ-loop
+sub-leaf c = omega arith
+
+part-leaf-start : tie.Need-part-leaf-start Inv-loop μ-loop
+part-leaf-start c = omega arith
+
+part-leaf-end : tie.Need-part-leaf-end Inv-loop μ-loop
+part-leaf-end c = omega arith
 
 leaf-requires : tie.Need-leaf-requires Inv-loop μ-loop
-leaf-requires c κs = tt
+leaf-requires c κs =
+    let a = c .before .before .args in
+    omega (arith, length-take (a .at + 4 - a .at) (drop (a .at) (now (a .s))))
 
 add-next : tie.Need-add-next Inv-loop μ-loop
 add-next c = omega arith
 
 loop-holds : tie.Need-loop-holds Inv-loop μ-loop
 loop-holds c =
-    let a = c .before .before .before .args in (
+    let start = c .before .before in
+    let a = start .before .args in
+    let four : a .at + 4 - a .at ≡ 4 = omega arith in
+    let value : part (now (a .s)) (a .at) (a .at + 4 - a .at) ≡ bytes4 (openedValue (now (a .s)) (a .at)) =
+    ap (part (now (a .s)) (a .at)) four ∙ sym (value-bytes (now (a .s)) (a .at) (omega arith) (λ i h. omega (arith, start .shared-slice-known .given i))) in (
       omega arith,
       ap (λ (own : List ℕ). climb digest own (a .position) (digests (now (a .s)) (a .at + 4) (a .depth)))
-          (c .leaf .ensures ∙ ap (λ (v : ℕ). digest (leafString (entry (a .position) v))) (c .before .value-at .ensures)),
+          (c .leaf .ensures ∙ ap (λ (v : List ℕ). digest (leafString (entry (a .position) v))) value),
     )
 
 digest-at-requires : tie.Need-digest-at-requires Inv-loop μ-loop
@@ -75,7 +92,10 @@ opening-root-spec =
     (tie.spec
     Inv-loop
     μ-loop
-    value-at-requires
+    add-leaf
+    sub-leaf
+    part-leaf-start
+    part-leaf-end
     leaf-requires
     add-next
     loop-holds

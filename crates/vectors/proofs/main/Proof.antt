@@ -50,8 +50,14 @@ digest-requires-3 c κs = search needs
 show-digest-requires-3 : tie.Need-show-digest-requires-3
 show-digest-requires-3 c κs = search needs
 
+slice-aggregate-leaf : tie.Need-slice-aggregate-leaf
+slice-aggregate-leaf c = search needs
+
 leaf-requires : tie.Need-leaf-requires
 leaf-requires c κs = search needs
+
+slice-aggregate-leaf-2 : tie.Need-slice-aggregate-leaf-2
+slice-aggregate-leaf-2 c = search needs
 
 leaf-requires-2 : tie.Need-leaf-requires-2
 leaf-requires-2 c κs = search needs
@@ -65,14 +71,20 @@ show-digest-requires-4 c κs = search needs
 slice-aggregate-show-digest-5 : tie.Need-slice-aggregate-show-digest-5
 slice-aggregate-show-digest-5 c = search needs
 
-node-requires : tie.Need-node-requires
-node-requires c κs = search needs
-
 show-digest-requires-5 : tie.Need-show-digest-requires-5
 show-digest-requires-5 c κs = search needs
 
 slice-aggregate-show-digest-6 : tie.Need-slice-aggregate-show-digest-6
 slice-aggregate-show-digest-6 c = search needs
+
+node-requires : tie.Need-node-requires
+node-requires c κs = search needs
+
+show-digest-requires-6 : tie.Need-show-digest-requires-6
+show-digest-requires-6 c κs = search needs
+
+slice-aggregate-show-digest-7 : tie.Need-slice-aggregate-show-digest-7
+slice-aggregate-show-digest-7 c = search needs
 
 slice-aggregate-root : tie.Need-slice-aggregate-root
 slice-aggregate-root c = search needs
@@ -80,8 +92,8 @@ slice-aggregate-root c = search needs
 root-requires : tie.Need-root-requires
 root-requires c κs = search needs
 
-show-digest-requires-6 : tie.Need-show-digest-requires-6
-show-digest-requires-6 c κs = search needs
+show-digest-requires-7 : tie.Need-show-digest-requires-7
+show-digest-requires-7 c κs = search needs
 
 slice-aggregate-show-numbers : tie.Need-slice-aggregate-show-numbers
 slice-aggregate-show-numbers c = search needs
@@ -144,17 +156,21 @@ main-spec =
     slice-aggregate-digest-3
     digest-requires-3
     show-digest-requires-3
+    slice-aggregate-leaf
     leaf-requires
+    slice-aggregate-leaf-2
     leaf-requires-2
     slice-aggregate-show-digest-4
     show-digest-requires-4
     slice-aggregate-show-digest-5
-    node-requires
     show-digest-requires-5
     slice-aggregate-show-digest-6
+    node-requires
+    show-digest-requires-6
+    slice-aggregate-show-digest-7
     slice-aggregate-root
     root-requires
-    show-digest-requires-6
+    show-digest-requires-7
     slice-aggregate-show-numbers
     add-requires
     sub-requires

@@ -10,8 +10,8 @@ use lomvuze_verdicts as library;
 /// The codeword of a witness and the root of the tree over it.
 ///
 /// The codeword has at position i the sum over j of w_j × (g^i)^j, where g = 31^((p − 1) / 4k). The tree is
-/// that of RFC 6962, section 2.1, with SHA-256: a leaf is the byte 0 and a value in four bytes, an inner node
-/// the byte 1 and the digests of its two children.
+/// that of RFC 6962, section 2.1, with SHA-256: a leaf is the byte 0, a position and the value there, in four
+/// bytes each, lowest first; an inner node is the byte 1 and the digests of its two children.
 ///
 /// # Errors
 ///

@@ -10,9 +10,6 @@ use Rattle.harness.proofs.Openings.{one-position, asked, one-opening}
 use Rattle.harness.proofs.trees.write_opening.Statement.{statement}
 use Rattle.harness.proofs.trees.write_opening.Tie as tie
 
-cast-bytes-of : tie.Need-cast-bytes-of
-cast-bytes-of c = omega (arith, few (c .before .before .args .depth) (c .before .before .pre .1))
-
 bytes-of-requires : tie.Need-bytes-of-requires
 bytes-of-requires c κs = search needs
 
@@ -41,7 +38,6 @@ pub write-opening-spec : {M : Type 1} → statement M
 write-opening-spec =
     tie.close
     (tie.spec
-    cast-bytes-of
     bytes-of-requires
     slice-aggregate-write-openings
     write-openings-requires
