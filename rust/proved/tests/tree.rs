@@ -31,6 +31,15 @@ fn proved_opening(values: &[u32], depth: usize, position: usize) -> Vec<u8> {
     opening
 }
 
+/// Random values, one of their positions, and its opening.
+fn random_opening(random: &mut Random) -> (Vec<u32>, usize, Vec<u8>) {
+    let depth = random.below(9);
+    let values = values(random, depth);
+    let position = random.below(values.len());
+    let opening = proved_opening(&values, depth, position);
+    (values, position, opening)
+}
+
 fn proved_leads_to(opening: &[u8], position: usize) -> Digest {
     let mut out = MARK;
     assert_eq!(proved::leads_to(opening, (opening.len() - 4) / 32, position, &mut out), 0);
@@ -94,10 +103,7 @@ fn an_opening_at_every_position() {
 fn long_positions() {
     let mut random = Random::new(5);
     for _ in 0..500 {
-        let depth = random.below(9);
-        let values = values(&mut random, depth);
-        let position = random.below(values.len());
-        let opening = proved_opening(&values, depth, position);
+        let (values, position, opening) = random_opening(&mut random);
         let higher = (1 + random.below(u32::MAX as usize)) << 32;
         assert_eq!(proved_leads_to(&opening, position + higher), tree::root(&entries(&values)));
         let any = random.bits() as usize;
@@ -110,10 +116,7 @@ fn long_positions() {
 fn damaged_openings() {
     let mut random = Random::new(3);
     for _ in 0..500 {
-        let depth = random.below(9);
-        let values = values(&mut random, depth);
-        let position = random.below(values.len());
-        let mut opening = proved_opening(&values, depth, position);
+        let (_, position, mut opening) = random_opening(&mut random);
         let root = proved_leads_to(&opening, position);
 
         let byte = random.below(opening.len());
@@ -124,7 +127,7 @@ fn damaged_openings() {
         let other = random.number() as usize;
         assert_eq!(proved_leads_to(&opening, other), reference_leads_to(&opening, other));
 
-        let bytes = random.bytes(4 + 32 * depth);
+        let bytes = random.bytes(opening.len());
         assert_eq!(proved_leads_to(&bytes, position), reference_leads_to(&bytes, position));
     }
 }
