@@ -4,7 +4,8 @@
 header := include/lomvuze.h
 number = $(shell sed -n 's/^.define LOMVUZE_VERSION_$(1) //p' $(header))
 major := $(call number,MAJOR)
-version := $(major).$(call number,MINOR).$(call number,PATCH)
+minor := $(call number,MINOR)
+version := $(major).$(minor).$(call number,PATCH)
 
 # LOMVUZE_STATICLIB and LOMVUZE_BIN name other folders with the static libraries and the program in them; nothing is built there.
 staticlib := $(or $(LOMVUZE_STATICLIB),target/staticlib)
@@ -12,10 +13,11 @@ bin := $(or $(LOMVUZE_BIN),target/bin)
 
 sources := crates.txt $(shell find crates -type f -not -path '*/must-fail/*')
 
-# The library: an archive and a shared object.
+# The library: an archive and a shared object. Before version 1 a call's arguments may change with the minor number, so the shared object's name has it:
+# a program is not loaded with calls of other arguments.
 archive := target/liblomvuze.a
 shared := target/liblomvuze.so.$(version)
-soname := liblomvuze.so.$(major)
+soname := liblomvuze.so.$(major).$(minor)
 all: $(archive) $(shared)
 
 # Proves the exported calls and writes them as a static library.

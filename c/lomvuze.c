@@ -17,6 +17,7 @@ const char *lomvuze_strerror(uint32_t answer) {
     case LOMVUZE_COMBINATION: return "a new opened value is no combination";
     case LOMVUZE_ROOT: return "a root is not that of its witness";
     case LOMVUZE_CLAIM: return "an item does not hold";
+    case LOMVUZE_POINTS: return "a point repeats another, or is p or more";
     default: return "unknown answer";
   }
 }

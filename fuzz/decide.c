@@ -3,15 +3,14 @@
 
 static uint32_t run(const struct call *c) {
   const struct sizes *s = &c->sizes;
-  return lomvuze_decide(s->m, s->n, s->k, BYTES(c->in[0]), BYTES(c->in[1]), BYTES(c->in[2]), BYTES(c->in[3]), BYTES(c->in[4]));
+  return lomvuze_decide(s->m, s->n, s->k, OVER(c), BYTES(c->in[4]), BYTES(c->in[5]));
 }
 
 /* Folding the item alone, at any challenge, gives the same answer and gives it back. With another e or root it is refused. */
 static void compare(const struct call *c, uint32_t answer) {
   const struct sizes *s = &c->sizes;
-  struct buffer item = c->in[3], w = c->in[4], none = scratch(0), new_item = scratch(item.length), new_w = scratch(w.length);
-  REQUIRE(lomvuze_fold(s->m, s->n, s->k, 1, LOMVUZE_P - 1, BYTES(c->in[0]), BYTES(c->in[1]), BYTES(c->in[2]), BYTES(item), BYTES(w),
-                       BYTES(none), BYTES(new_item), BYTES(new_w)) == answer,
+  struct buffer item = c->in[4], w = c->in[5], none = scratch(0), new_item = scratch(item.length), new_w = scratch(w.length);
+  REQUIRE(lomvuze_fold(s->m, s->n, s->k, 1, LOMVUZE_P - 1, OVER(c), BYTES(item), BYTES(w), BYTES(none), BYTES(new_item), BYTES(new_w)) == answer,
           "folding the item alone has another answer");
   if (answer != LOMVUZE_ACCEPTED) return;
   REQUIRE(memcmp(item.bytes, new_item.bytes, item.length) == 0 && memcmp(w.bytes, new_w.bytes, w.length) == 0,
@@ -28,9 +27,9 @@ static void compare(const struct call *c, uint32_t answer) {
 
 const struct target target = {
     "mnk",
-    {ENTRIES, ENTRIES, ENTRIES, ITEM, WITNESS},
+    {POINTS, ENTRIES, ENTRIES, ENTRIES, ITEM, WITNESS},
     {END},
-    {LOMVUZE_SIZE, LOMVUZE_ELEMENT, LOMVUZE_CIRCUIT, LOMVUZE_ROOT, LOMVUZE_CLAIM},
+    {LOMVUZE_SIZE, LOMVUZE_ELEMENT, LOMVUZE_POINTS, LOMVUZE_CIRCUIT, LOMVUZE_ROOT, LOMVUZE_CLAIM},
     run,
     compare,
     NULL,

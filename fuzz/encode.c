@@ -2,22 +2,31 @@
 #include "target.h"
 
 static uint32_t run(const struct call *c) {
-  return lomvuze_encode(c->sizes.k, BYTES(c->in[0]), BYTES(c->out[0]), BYTES(c->out[1]));
+  return lomvuze_encode(c->sizes.k, BYTES(c->in[0]), BYTES(c->in[1]), BYTES(c->out[0]), BYTES(c->out[1]));
 }
 
-/* Opening every position gives the same answer and shows the codeword; casting gives the root. */
+/*
+ * Opening every position gives the same answer and shows the codeword; casting gives the root. With points that are lent the codeword has the sums
+ * that define it.
+ */
 static void compare(const struct call *c, uint32_t answer) {
   uint32_t k = c->sizes.k, t = LOMVUZE_MAX_T(k);
-  struct buffer w = c->in[0], positions = scratch(LOMVUZE_POSITIONS_BYTES(t)), openings = scratch(LOMVUZE_OPENINGS_BYTES(k, t));
+  struct buffer points = c->in[0], w = c->in[1], code = c->out[0];
+  struct buffer positions = scratch(LOMVUZE_POSITIONS_BYTES(t)), openings = scratch(LOMVUZE_OPENINGS_BYTES(k, t));
   for (uint32_t i = 0; i < t; i++) put_number(positions.bytes + LOMVUZE_POSITIONS_BYTES(i), i);
-  REQUIRE(lomvuze_open(k, t, BYTES(w), BYTES(positions), BYTES(openings)) == answer, "opening has another answer");
+  REQUIRE(lomvuze_open(k, t, BYTES(points), BYTES(w), BYTES(positions), BYTES(openings)) == answer, "opening has another answer");
   if (answer != LOMVUZE_ACCEPTED) return;
 
   for (uint32_t i = 0; i < t; i++) {
     struct buffer opened = slice(openings, i * LOMVUZE_OPENING_BYTES(k), LOMVUZE_NUMBER_BYTES);
-    REQUIRE(memcmp(opened.bytes, c->out[0].bytes + i * LOMVUZE_NUMBER_BYTES, opened.length) == 0, "opening shows another codeword");
+    struct buffer value = slice(code, i * LOMVUZE_NUMBER_BYTES, LOMVUZE_NUMBER_BYTES);
+    REQUIRE(memcmp(opened.bytes, value.bytes, opened.length) == 0, "opening shows another codeword");
+    REQUIRE(points.length == 0 || number_at(value.bytes) == value_at(points, i, w), "the codeword is not the one of the points");
   }
-  REQUIRE(memcmp(item_of(k, w).bytes + LOMVUZE_ITEM_ROOT(0, 1), c->out[1].bytes, LOMVUZE_DIGEST_BYTES) == 0, "casting has another root");
+  struct buffer root = slice(item_of(k, points, w), LOMVUZE_ITEM_ROOT(0, 1), LOMVUZE_DIGEST_BYTES);
+  REQUIRE(memcmp(root.bytes, c->out[1].bytes, root.length) == 0, "casting has another root");
 }
 
-const struct target target = {"k", {WITNESS}, {CODEWORD, ROOT}, {LOMVUZE_SIZE, LOMVUZE_ELEMENT}, run, compare, NULL};
+const struct target target = {
+    "k", {POINTS, WITNESS}, {CODEWORD, ROOT}, {LOMVUZE_SIZE, LOMVUZE_ELEMENT, LOMVUZE_POINTS}, run, compare, NULL,
+};

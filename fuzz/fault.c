@@ -34,7 +34,7 @@ uint32_t fault(const struct call *call, uint32_t answer) {
     if (is("writes-another-byte") && end > 0 && target.outputs[i] != SHEET_SIZES) out->bytes[end - 1] ^= 1;
   }
   if (is("cuts-lengths") && call->in[0].length > UINT32_MAX) return LOMVUZE_ACCEPTED;
-  if (is("answers-12")) return 12;
+  if (is("answers-none")) return UINT32_MAX;
   if (is("answers-in-turns") && calls % 2 == 0) return LOMVUZE_ACCEPTED;
   if (is("accepts")) return LOMVUZE_ACCEPTED;
   if (is("refuses") && answer == LOMVUZE_ACCEPTED) return LOMVUZE_ELEMENT;

@@ -3,8 +3,8 @@
 
 static uint32_t run(const struct call *c) {
   const struct sizes *s = &c->sizes;
-  return lomvuze_fold(s->m, s->n, s->k, s->l, s->challenge, BYTES(c->in[0]), BYTES(c->in[1]), BYTES(c->in[2]), BYTES(c->in[3]),
-                      BYTES(c->in[4]), BYTES(c->out[0]), BYTES(c->out[1]), BYTES(c->out[2]));
+  return lomvuze_fold(s->m, s->n, s->k, s->l, s->challenge, OVER(c), BYTES(c->in[4]), BYTES(c->in[5]), BYTES(c->out[0]), BYTES(c->out[1]),
+                      BYTES(c->out[2]));
 }
 
 /* The openings of all items and the new one at two positions, in the order that verifying takes. */
@@ -13,8 +13,8 @@ static struct buffer open_all(const struct call *c, struct buffer positions) {
   size_t opening = LOMVUZE_OPENING_BYTES(k);
   struct buffer all = scratch(LOMVUZE_ALL_OPENINGS_BYTES(k, l, t)), opened = scratch(LOMVUZE_OPENINGS_BYTES(k, t));
   for (uint32_t i = 0; i <= l; i++) {
-    struct buffer w = i < l ? slice(c->in[4], i * LOMVUZE_WITNESS_BYTES(k), LOMVUZE_WITNESS_BYTES(k)) : c->out[2];
-    REQUIRE(lomvuze_open(k, t, BYTES(w), BYTES(positions), BYTES(opened)) == LOMVUZE_ACCEPTED, "a witness is not opened");
+    struct buffer w = i < l ? slice(c->in[5], i * LOMVUZE_WITNESS_BYTES(k), LOMVUZE_WITNESS_BYTES(k)) : c->out[2];
+    REQUIRE(lomvuze_open(k, t, BYTES(c->in[0]), BYTES(w), BYTES(positions), BYTES(opened)) == LOMVUZE_ACCEPTED, "a witness is not opened");
     for (uint32_t q = 0; q < t; q++) memcpy(all.bytes + (q * (l + 1) + i) * opening, opened.bytes + q * opening, opening);
   }
   return all;
@@ -27,32 +27,29 @@ static struct buffer open_all(const struct call *c, struct buffer positions) {
 static void compare(const struct call *c, uint32_t answer) {
   const struct sizes *s = &c->sizes;
   struct buffer quotient = scratch(c->out[0].length);
-  uint32_t alone = lomvuze_quotient(s->m, s->n, s->k, s->l, BYTES(c->in[0]), BYTES(c->in[1]), BYTES(c->in[2]), BYTES(c->in[3]),
-                                    BYTES(c->in[4]), BYTES(quotient));
+  uint32_t alone = lomvuze_quotient(s->m, s->n, s->k, s->l, OVER(c), BYTES(c->in[4]), BYTES(c->in[5]), BYTES(quotient));
   bool permitted = s->l <= s->challenge && s->challenge < LOMVUZE_P;
-  bool before = alone == LOMVUZE_ELEMENT || alone == LOMVUZE_CIRCUIT;
+  bool before = alone == LOMVUZE_ELEMENT || alone == LOMVUZE_POINTS || alone == LOMVUZE_CIRCUIT;
   REQUIRE(answer == (before || permitted ? alone : LOMVUZE_CHALLENGE), "the quotient or the challenge says another answer");
   if (answer != LOMVUZE_ACCEPTED) return;
 
   REQUIRE(quotient.length == 0 || memcmp(quotient.bytes, c->out[0].bytes, quotient.length) == 0, "another quotient");
-  REQUIRE(lomvuze_decide(s->m, s->n, s->k, BYTES(c->in[0]), BYTES(c->in[1]), BYTES(c->in[2]), BYTES(c->out[1]), BYTES(c->out[2])) ==
-              LOMVUZE_ACCEPTED,
-          "deciding refuses the new item");
+  REQUIRE(lomvuze_decide(s->m, s->n, s->k, OVER(c), BYTES(c->out[1]), BYTES(c->out[2])) == LOMVUZE_ACCEPTED, "deciding refuses the new item");
 
   struct buffer positions = scratch(LOMVUZE_POSITIONS_BYTES(2));
   put_number(positions.bytes, 4 * s->k - 1);
   put_number(positions.bytes + LOMVUZE_NUMBER_BYTES, s->challenge % (4 * s->k));
   struct buffer openings = open_all(c, positions);
-  REQUIRE(lomvuze_verify(s->m, s->n, s->k, s->l, 2, s->challenge, BYTES(c->in[3]), BYTES(positions), BYTES(c->out[0]), BYTES(c->out[1]),
+  REQUIRE(lomvuze_verify(s->m, s->n, s->k, s->l, 2, s->challenge, BYTES(c->in[4]), BYTES(positions), BYTES(c->out[0]), BYTES(c->out[1]),
                          BYTES(openings)) == LOMVUZE_ACCEPTED,
           "verifying refuses the fold");
 }
 
 const struct target target = {
     "mnkla",
-    {ENTRIES, ENTRIES, ENTRIES, ITEMS, WITNESSES},
+    {POINTS, ENTRIES, ENTRIES, ENTRIES, ITEMS, WITNESSES},
     {QUOTIENT, ITEM, WITNESS},
-    {LOMVUZE_SIZE, LOMVUZE_ELEMENT, LOMVUZE_CIRCUIT, LOMVUZE_CHALLENGE, LOMVUZE_ROOT, LOMVUZE_CLAIM},
+    {LOMVUZE_SIZE, LOMVUZE_ELEMENT, LOMVUZE_POINTS, LOMVUZE_CIRCUIT, LOMVUZE_CHALLENGE, LOMVUZE_ROOT, LOMVUZE_CLAIM},
     run,
     compare,
     NULL,

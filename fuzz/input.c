@@ -47,10 +47,11 @@ uint32_t depth_of(uint32_t k) {
   return depth;
 }
 
-/* The length that sizes give, modulo 2^32. The header's macros give none to sizes that are not permitted. */
+/* The length that sizes give, modulo 2^32; to points where they are lent. The header's macros give none to sizes that are not permitted. */
 static uint32_t length_of(enum part part, const struct sizes *s) {
   uint32_t item = 4 + 4 * s->m + 4 * s->n + 32, opening = 4 + 32 * depth_of(s->k);
   switch (part) {
+    case POINTS: return 16 * s->k;
     case R: return 4 * s->m;
     case X: return 4 * s->n;
     case WITNESS: return 4 * s->k;
@@ -81,7 +82,8 @@ static int64_t longest(enum part part) {
 
 void cut(struct input *input) {
   for (size_t i = 0; i < buffer_count(); i++) {
-    int64_t length = (int64_t)length_of(part_of(i), &input->sizes) + input->more[i], most = longest(part_of(i));
+    bool none = part_of(i) == POINTS && input->points == NO_POINTS;
+    int64_t length = (none ? 0 : (int64_t)length_of(part_of(i), &input->sizes)) + input->more[i], most = longest(part_of(i));
     input->lengths[i] = (size_t)(length < 0 ? 0 : length > most ? most : length);
   }
 }
@@ -101,19 +103,37 @@ static uint32_t take_number(const uint8_t **data, size_t *size) {
   return number_at(bytes);
 }
 
+/* A byte above LENT says LENT, too. */
+static enum which take_which(const uint8_t **data, size_t *size) {
+  uint8_t byte;
+  take(data, size, &byte, 1);
+  return byte < LENT ? (enum which)byte : LENT;
+}
+
+/* Whether a buffer's contents are worked out and do not stand in the input. */
+static bool worked_out(const struct input *input, size_t i) { return part_of(i) == POINTS && input->points == BUILT_IN; }
+
 void unpack(struct input *input, const uint8_t *data, size_t size) {
   input->sizes = (struct sizes){0, 1, 2, 1, 1, 1};
   for (const char *letter = target.numbers; *letter != 0; letter++) *number_of(&input->sizes, *letter) = take_number(&data, &size);
+  input->points = takes_points() ? take_which(&data, &size) : NO_POINTS;
   for (size_t i = 0; i < buffer_count(); i++) input->more[i] = has_number(part_of(i)) ? (int32_t)take_number(&data, &size) : 0;
   if (reads_sheet()) input->more[0] = (int32_t)size;
   cut(input);
-  for (size_t i = 0; i < input_count(); i++) take(&data, &size, input->contents[i], input->lengths[i]);
+  for (size_t i = 0; i < input_count(); i++) {
+    if (worked_out(input, i)) {
+      put_built_in(input->contents[i], input->lengths[i], input->sizes.k);
+    } else {
+      take(&data, &size, input->contents[i], input->lengths[i]);
+    }
+  }
 }
 
 size_t pack(const struct input *input, uint8_t *data, size_t most) {
   struct sizes sizes = input->sizes;
-  uint8_t front[4 * (MOST_NUMBERS + MOST_BUFFERS)], *next = front;
+  uint8_t front[4 * (MOST_NUMBERS + MOST_BUFFERS) + 1], *next = front;
   for (const char *letter = target.numbers; *letter != 0; letter++, next += 4) put_number(next, *number_of(&sizes, *letter));
+  if (takes_points()) *next++ = (uint8_t)input->points;
   for (size_t i = 0; i < buffer_count(); i++) {
     if (!has_number(part_of(i))) continue;
     put_number(next, (uint32_t)input->more[i]);
@@ -124,6 +144,7 @@ size_t pack(const struct input *input, uint8_t *data, size_t most) {
   if (size > 0) memcpy(data, front, size);
   for (size_t i = 0; i < input_count(); i++) {
     size_t length = input->lengths[i] < most - size ? input->lengths[i] : most - size;
+    if (worked_out(input, i)) continue;
     if (length > 0) memcpy(data + size, input->contents[i], length);
     size += length;
   }
@@ -152,7 +173,7 @@ bool fits(const struct input *input) {
   for (size_t i = 0; i < buffer_count(); i++) {
     size_t length = input->lengths[i], entry = LOMVUZE_ENTRIES_BYTES(1);
     bool entries = length % entry == 0 && length / entry <= LOMVUZE_MAX_ENTRIES;
-    if (part_of(i) == SHEET) continue;
+    if (part_of(i) == SHEET || (part_of(i) == POINTS && length == 0)) continue;
     if (part_of(i) == ENTRIES ? !entries : length != length_of(part_of(i), &sizes)) return false;
   }
   return true;

@@ -1,6 +1,6 @@
 /*
  * Changes an input by its structure: libFuzzer does not see the library's code, so that inputs of random changes would stop at check 2. A change
- * is to a number, to a buffer's length or, mostly, to the contents of a buffer, each buffer as often as any other.
+ * is to a number, to the choice of points, to a buffer's length or, mostly, to the contents of a buffer, each buffer as often as any other.
  */
 #include "target.h"
 
@@ -91,6 +91,14 @@ static void change_number(void) {
   refit();
 }
 
+/* Other points: none, the built-in ones, or these in the input, where they can be changed. */
+static void change_points(void) {
+  input.points = (enum which)below(3);
+  input.more[0] = 0;
+  refit();
+  if (input.points == LENT) put_built_in(input.contents[0], input.lengths[0], input.sizes.k);
+}
+
 static void change_length(void) {
   size_t i = below(buffer_count());
   static const int32_t steps[] = {1, -1, 4, -4, 12, -12};
@@ -159,6 +167,7 @@ static void change_contents(void) {
     return;
   }
   size_t i = below(input_count()), length = input.lengths[i], each = stride(part_of(i));
+  if (part_of(i) == POINTS && input.points == BUILT_IN) input.points = LENT; /* those that stand there, and then one changed */
   if (each < LOMVUZE_NUMBER_BYTES || each > length) return;
   uint8_t *bytes = input.contents[i], *thing = bytes + below(length / each) * each, *other = bytes + below(length / each) * each;
   uint8_t *number = bytes + below(length / LOMVUZE_NUMBER_BYTES) * LOMVUZE_NUMBER_BYTES;
@@ -184,6 +193,7 @@ size_t LLVMFuzzerCustomMutator(uint8_t *data, size_t size, size_t most, unsigned
       case 2:
         if (target.change != NULL) target.change(&input, below);
         break;
+      case 3: (takes_points() ? change_points : change_contents)(); break;
       default: change_contents();
     }
   }

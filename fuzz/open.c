@@ -2,25 +2,34 @@
 #include "target.h"
 
 static uint32_t run(const struct call *c) {
-  return lomvuze_open(c->sizes.k, c->sizes.t, BYTES(c->in[0]), BYTES(c->in[1]), BYTES(c->out[0]));
+  return lomvuze_open(c->sizes.k, c->sizes.t, BYTES(c->in[0]), BYTES(c->in[1]), BYTES(c->in[2]), BYTES(c->out[0]));
 }
 
 /*
- * Encoding refuses the same witnesses. A fold of one item is that item: verifying accepts it with the openings once for the item and once for
- * the new one.
+ * Encoding refuses the same points and witnesses. A fold of one item is that item: verifying, which takes no points, accepts it with the openings
+ * once for the item and once for the new one.
  */
 static void compare(const struct call *c, uint32_t answer) {
   uint32_t k = c->sizes.k, t = c->sizes.t;
-  struct buffer w = c->in[0], code = scratch(LOMVUZE_CODEWORD_BYTES(k)), root = scratch(LOMVUZE_DIGEST_BYTES);
-  uint32_t encoded = lomvuze_encode(k, BYTES(w), BYTES(code), BYTES(root));
-  REQUIRE(encoded == (answer == LOMVUZE_ELEMENT ? LOMVUZE_ELEMENT : LOMVUZE_ACCEPTED), "encoding has another answer");
+  struct buffer points = c->in[0], w = c->in[1], positions = c->in[2];
+  struct buffer code = scratch(LOMVUZE_CODEWORD_BYTES(k)), root = scratch(LOMVUZE_DIGEST_BYTES);
+  uint32_t encoded = lomvuze_encode(k, BYTES(points), BYTES(w), BYTES(code), BYTES(root));
+  REQUIRE(encoded == (answer == LOMVUZE_POSITION ? LOMVUZE_ACCEPTED : answer), "encoding has another answer");
   if (answer != LOMVUZE_ACCEPTED) return;
 
   size_t opening = LOMVUZE_OPENING_BYTES(k);
-  struct buffer item = item_of(k, w), none = scratch(0), twice = scratch(LOMVUZE_ALL_OPENINGS_BYTES(k, 1, t));
+  struct buffer item = item_of(k, points, w), none = scratch(0), twice = scratch(LOMVUZE_ALL_OPENINGS_BYTES(k, 1, t));
   for (uint32_t i = 0; i < 2 * t; i++) memcpy(twice.bytes + i * opening, c->out[0].bytes + i / 2 * opening, opening);
-  REQUIRE(lomvuze_verify(0, 1, k, 1, t, 1, BYTES(item), BYTES(c->in[1]), BYTES(none), BYTES(item), BYTES(twice)) == LOMVUZE_ACCEPTED,
+  REQUIRE(lomvuze_verify(0, 1, k, 1, t, 1, BYTES(item), BYTES(positions), BYTES(none), BYTES(item), BYTES(twice)) == LOMVUZE_ACCEPTED,
           "verifying refuses the openings");
 }
 
-const struct target target = {"kt", {WITNESS, POSITIONS}, {OPENINGS}, {LOMVUZE_SIZE, LOMVUZE_ELEMENT, LOMVUZE_POSITION}, run, compare, NULL};
+const struct target target = {
+    "kt",
+    {POINTS, WITNESS, POSITIONS},
+    {OPENINGS},
+    {LOMVUZE_SIZE, LOMVUZE_ELEMENT, LOMVUZE_POINTS, LOMVUZE_POSITION},
+    run,
+    compare,
+    NULL,
+};

@@ -3,8 +3,7 @@
 
 static uint32_t run(const struct call *c) {
   const struct sizes *s = &c->sizes;
-  return lomvuze_quotient(s->m, s->n, s->k, s->l, BYTES(c->in[0]), BYTES(c->in[1]), BYTES(c->in[2]), BYTES(c->in[3]), BYTES(c->in[4]),
-                          BYTES(c->out[0]));
+  return lomvuze_quotient(s->m, s->n, s->k, s->l, OVER(c), BYTES(c->in[4]), BYTES(c->in[5]), BYTES(c->out[0]));
 }
 
 /* Folding at the least challenge that is permitted gives the same answer and quotient. */
@@ -12,8 +11,8 @@ static void compare(const struct call *c, uint32_t answer) {
   const struct sizes *s = &c->sizes;
   struct buffer quotient = scratch(c->out[0].length), item = scratch(LOMVUZE_ITEM_BYTES(s->m, s->n));
   struct buffer witness = scratch(LOMVUZE_WITNESS_BYTES(s->k));
-  REQUIRE(lomvuze_fold(s->m, s->n, s->k, s->l, s->l, BYTES(c->in[0]), BYTES(c->in[1]), BYTES(c->in[2]), BYTES(c->in[3]),
-                       BYTES(c->in[4]), BYTES(quotient), BYTES(item), BYTES(witness)) == answer,
+  REQUIRE(lomvuze_fold(s->m, s->n, s->k, s->l, s->l, OVER(c), BYTES(c->in[4]), BYTES(c->in[5]), BYTES(quotient), BYTES(item),
+                       BYTES(witness)) == answer,
           "folding has another answer");
   if (answer != LOMVUZE_ACCEPTED || quotient.length == 0) return;
   REQUIRE(memcmp(quotient.bytes, c->out[0].bytes, quotient.length) == 0, "folding has another quotient");
@@ -21,9 +20,9 @@ static void compare(const struct call *c, uint32_t answer) {
 
 const struct target target = {
     "mnkl",
-    {ENTRIES, ENTRIES, ENTRIES, ITEMS, WITNESSES},
+    {POINTS, ENTRIES, ENTRIES, ENTRIES, ITEMS, WITNESSES},
     {QUOTIENT},
-    {LOMVUZE_SIZE, LOMVUZE_ELEMENT, LOMVUZE_CIRCUIT, LOMVUZE_ROOT, LOMVUZE_CLAIM},
+    {LOMVUZE_SIZE, LOMVUZE_ELEMENT, LOMVUZE_POINTS, LOMVUZE_CIRCUIT, LOMVUZE_ROOT, LOMVUZE_CLAIM},
     run,
     compare,
     NULL,

@@ -67,7 +67,7 @@ static void compare(const struct call *c, uint32_t answer) {
     struct buffer wit = slice(c->out[4], LOMVUZE_WITNESSES_BYTES(k, i), LOMVUZE_WITNESS_BYTES(k));
     put_line("item", slice(item, 0, LOMVUZE_ITEM_ROOT(m, n)), slice(item, LOMVUZE_ITEM_ROOT(m, n), LOMVUZE_DIGEST_BYTES));
     put_line("wit", wit, none);
-    uint32_t decided = lomvuze_decide(m, n, k, BYTES(lists[0]), BYTES(lists[1]), BYTES(lists[2]), BYTES(item), BYTES(wit));
+    uint32_t decided = lomvuze_decide(m, n, k, BYTES(none), BYTES(lists[0]), BYTES(lists[1]), BYTES(lists[2]), BYTES(item), BYTES(wit));
     REQUIRE(decided == LOMVUZE_ACCEPTED || decided == LOMVUZE_ROOT || decided == LOMVUZE_CLAIM, "deciding refuses what was read");
   }
   put_line("end", end, none);

@@ -1,6 +1,7 @@
 #!/usr/bin/env bash
 # Runs each fuzz target once on each of its seeds, without a fuzzer, and prints the call's answer: it is the number that the seed's name starts
-# with, and every answer of the call is given. Then the controls: the targets must find the faults of fault.c. Needs cc.
+# with, and every answer of the call is given; a call that takes points has seeds 0-built-in and 0-lent. Then the controls: the targets must find
+# the faults of fault.c. Needs cc.
 # LOMVUZE_STATICLIB names another folder with libverdicts.a in it; nothing is built there.
 set -euo pipefail
 cd "$(dirname "$0")/.."
@@ -16,19 +17,23 @@ fail() { printf 'FAILED: %s\n' "$1"; exit 1; }
 calls=$(sed -n 's/^uint32_t lomvuze_\([a-z_]*\)(.*/\1/p' include/lomvuze.h)
 flags=(-std=c11 -O1 -g -Wall -Wextra -Wpedantic -Werror -Iinclude)
 checked=(-fsanitize=address,undefined -fno-sanitize-recover=undefined)
-for part in target input memory replay $calls; do
+for part in target input points memory replay $calls; do
     cc "${flags[@]}" "${checked[@]}" -c -o "$folder/$part.o" "fuzz/$part.c"
 done
 cc "${flags[@]}" -c -o "$folder/fault.o" fuzz/fault.c
 for call in $calls; do
-    objects=("$folder/$call.o" "$folder/target.o" "$folder/input.o" "$folder/memory.o" "$folder/replay.o")
+    objects=("$folder"/{"$call",target,input,points,memory,replay}.o)
     cc "${checked[@]}" -o "$folder/$call" "${objects[@]}" "$library"
     cc "${checked[@]}" -o "$folder/$call.faulty" "${objects[@]}" "$folder/fault.o" "$library"
 done
 
 # ---- The seeds
+declaration() { sed -n "/^uint32_t lomvuze_$1(/,/;/p" include/lomvuze.h; }
 seeds=0
 for call in $calls; do
+    if declaration "$call" | grep points_len >/dev/null; then
+        for seed in 0-built-in 0-lent; do [ -e "fuzz/corpus/$call/$seed" ] || fail "$call has no seed $seed"; done
+    fi
     "$folder/$call" --every fuzz/corpus/"$call"/* >"$folder/$call.answers" || fail "$call"
     cat "$folder/$call.answers"
     while read -r file answer; do
@@ -52,20 +57,23 @@ control() {
 controls=0
 for call in $calls; do
     LOMVUZE_FAULT='' "$folder/$call.faulty" fuzz/corpus/"$call"/* >/dev/null || fail "$call: found without a fault"
-    writes=$(sed -n "/^uint32_t lomvuze_$call(/,/;/p" include/lomvuze.h | grep '_out_len' || true)
+    writes=$(declaration "$call" | grep '_out_len' || true)
     for seed in fuzz/corpus/"$call"/*; do
         accepted=
         [[ ${seed##*/} != 0* ]] || accepted=yes
         control "$call" "$seed" reads-behind-input 'AddressSanitizer: SEGV'
         control "$call" "$seed" reads-before-input 'AddressSanitizer: SEGV'
         control "$call" "$seed" writes-input 'FOUND: an input buffer was changed'
-        control "$call" "$seed" answers-12 'FOUND: an answer that is none'
+        control "$call" "$seed" answers-none 'FOUND: an answer that is none'
         if [ "$accepted" ]; then
             control "$call" "$seed" refuses 'FOUND: '
             control "$call" "$seed" cuts-lengths 'FOUND: a length of 2^32 more'
         else
             control "$call" "$seed" accepts 'FOUND: '
             control "$call" "$seed" answers-in-turns 'FOUND: another answer'
+        fi
+        if [[ ${seed##*/} = 0-built-in ]]; then
+            control "$call" "$seed" "$([ "$writes" ] && echo writes-another-byte || echo refuses)" 'FOUND: the built-in points'
         fi
         if [ "$writes" ]; then
             control "$call" "$seed" writes-behind-output 'AddressSanitizer: SEGV'

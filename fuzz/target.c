@@ -5,6 +5,8 @@
  *     the second. AddressSanitizer does not see the loads and stores of the library, which is not compiled with it.
  *   - The answer is 0 or one of the call's checks. It is LOMVUZE_SIZE exactly if a size or a length is not permitted. A length of 2^32 more is
  *     not, though its last 32 bits are the same. A sheet has sizes and counts too, and its lines are checked first.
+ *   - It is LOMVUZE_POINTS exactly if a point repeats another or is p or more, and LOMVUZE_SIZE and LOMVUZE_ELEMENT pass.
+ *   - The built-in points lent by hand give what the empty buffer gives.
  *   - Input buffers are unchanged. After a refusal output buffers are too.
  *   - Both runs give the same answer. After 0 they leave the same bytes, though output buffers held others before; beyond what a sheet gives
  *     they hold those still.
@@ -21,20 +23,20 @@ void found(const char *what) {
 }
 
 /*
- * ---- What libFuzzer is told. It keeps inputs that are accepted at new sizes, and one for each other answer: a change of an accepted input
- * reaches further than one of an input that was refused.
+ * ---- What libFuzzer is told. It keeps inputs that are accepted at new sizes, for each of the three ways to lend points, and one for each other
+ * answer: a change of an accepted input reaches further than one of an input that was refused.
  */
 
-enum { SIZES = 7 * 6 * 8, ANSWERS = 12 };
+enum { SIZES = 7 * 6 * 8 * 3, ANSWERS = LOMVUZE_POINTS + 1 };
 
 __attribute__((section("__libfuzzer_extra_counters"))) static uint8_t seen[SIZES + ANSWERS];
 
 static unsigned long answers[ANSWERS];
 
-static void note(const struct sizes *s, uint32_t answer) {
+static void note(const struct sizes *s, enum which points, uint32_t answer) {
   size_t depth = depth_of(s->k) - depth_of(LOMVUZE_MIN_K);
   answers[answer]++;
-  seen[answer == LOMVUZE_ACCEPTED ? (s->m * 6 + depth) * 8 + s->l - 1 : SIZES + answer] = 1;
+  seen[answer == LOMVUZE_ACCEPTED ? ((s->m * 6 + depth) * 8 + s->l - 1) * 3 + points : SIZES + answer] = 1;
 }
 
 static void print_answers(void) {
@@ -134,6 +136,26 @@ static void run_far(struct call *call, uint32_t answer) {
   }
 }
 
+/* Makes the call again with an empty buffer in the place of the built-in points: the same answer and, after 0, the same bytes. */
+static void run_without_points(const struct call *call, uint32_t answer) {
+  struct call again = *call;
+  again.in[0] = scratch(0);
+  for (size_t i = 0; i < output_count(); i++) again.out[i] = scratch(call->out[i].length);
+  REQUIRE(target.run(&again) == answer, "the built-in points have another answer than none");
+  for (size_t i = 0; answer == LOMVUZE_ACCEPTED && i < output_count(); i++) {
+    struct buffer one = call->out[i], other = again.out[i];
+    REQUIRE(one.length == 0 || memcmp(one.bytes, other.bytes, one.length) == 0, "the built-in points give other bytes than none");
+  }
+}
+
+/* What a call that passed check 2 does with its points. */
+static void check_points(const struct input *input, const struct call *call, uint32_t answer) {
+  if (!takes_points()) return;
+  bool tested = answer != LOMVUZE_ELEMENT;
+  REQUIRE((answer == LOMVUZE_POINTS) == (tested && !points_pass(call->in[0])), "check 12 is not what the points say");
+  if (input->points == BUILT_IN) run_without_points(call, answer);
+}
+
 int LLVMFuzzerTestOneInput(const uint8_t *data, size_t size) {
   static struct input input;
   struct call first = {0}, second = {0};
@@ -150,19 +172,21 @@ int LLVMFuzzerTestOneInput(const uint8_t *data, size_t size) {
           "check 2 is not what sizes and lengths say");
   if (answer != LOMVUZE_SIZE) {
     run_far(&second, answer);
+    check_points(&input, &second, answer);
     target.compare(&second, answer);
   }
   if (answer == LOMVUZE_ACCEPTED && reads_sheet()) {
     const uint32_t *sizes = sizes_read(&second);
     input.sizes = (struct sizes){sizes[0], sizes[1], sizes[2], 1 + (sizes[6] - 1) % LOMVUZE_MAX_L, 1, 1};
   }
-  note(&input.sizes, answer);
+  note(&input.sizes, input.points, answer);
   return 0;
 }
 
-struct buffer item_of(uint32_t k, struct buffer witness) {
+struct buffer item_of(uint32_t k, struct buffer points, struct buffer witness) {
   struct buffer none = scratch(0), x = scratch(LOMVUZE_X_BYTES(1)), item = scratch(LOMVUZE_ITEM_BYTES(0, 1));
-  uint32_t answer = lomvuze_cast(0, 1, k, BYTES(none), BYTES(none), BYTES(none), BYTES(none), BYTES(x), BYTES(witness), BYTES(item));
+  uint32_t answer =
+      lomvuze_cast(0, 1, k, BYTES(points), BYTES(none), BYTES(none), BYTES(none), BYTES(none), BYTES(x), BYTES(witness), BYTES(item));
   REQUIRE(answer == LOMVUZE_ACCEPTED, "a witness is not cast with an empty circuit");
   return item;
 }

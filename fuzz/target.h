@@ -1,16 +1,21 @@
 /*
  * Fuzz targets: each tries one call of include/lomvuze.h on inputs that a fuzzer makes. The file of a call, such as verify.c, defines
- * `target`; target.c runs the call and checks what it did, input.c reads inputs, memory.c has the buffers, mutator.c changes inputs.
+ * `target`; target.c runs the call and checks what it did, input.c reads inputs, points.c has what is known of points, memory.c the buffers, and
+ * mutator.c changes inputs.
  *
  * THE INPUT
  *
  * A number takes four bytes, lowest first. Where the input ends, zeros follow.
  *
  *   numbers    those that the call takes, in its order
+ *   points     for a call that takes points, its first buffer, a byte: 0 for an empty buffer, 1 for the built-in points lent by hand (points.c
+ *              works them out), any other for points that stand in the contents. Calls without points have no such byte
  *   lengths    a number with sign for each buffer of the call, in its order: what is added to the length that the sizes give the buffer.
- *              To a list of entries the sizes give none, so that its whole length stands here. A buffer has no less than 0 bytes, and
- *              at most a page more than at the greatest sizes. A sheet and the sizes read from it have no number here
- *   contents   of the buffers that the call reads, one after the other. A sheet has all bytes that are left
+ *              To a list of entries the sizes give none, so that its whole length stands here, and neither to points where the byte is 0;
+ *              to points where it is not 0 they give 16k. A buffer has no less than 0 bytes, and at most a page more than at the greatest
+ *              sizes. A sheet and the sizes read from it have no number here
+ *   contents   of the buffers that the call reads, one after the other, points first. With the byte 1 points have no bytes here; where their
+ *              buffer is longer than 16k, zeros follow them. A sheet has all bytes that are left
  *
  * The length that sizes give is worked out modulo 2^32, also where they are not permitted: a size of 2^30 comes with small buffers.
  */
@@ -22,7 +27,7 @@
 
 #include "lomvuze.h"
 
-enum { MOST_NUMBERS = 6, MOST_INPUTS = 6, MOST_OUTPUTS = 6, MOST_BUFFERS = MOST_INPUTS + MOST_OUTPUTS, MOST_CHECKS = 7 };
+enum { MOST_NUMBERS = 6, MOST_INPUTS = 7, MOST_OUTPUTS = 6, MOST_BUFFERS = MOST_INPUTS + MOST_OUTPUTS, MOST_CHECKS = 7 };
 
 /* No buffer is longer. */
 enum { LONGEST = 1 << 20 };
@@ -30,6 +35,7 @@ enum { LONGEST = 1 << 20 };
 /* What a buffer holds. */
 enum part {
   END,
+  POINTS, /* the first input of its call */
   ENTRIES,
   R,
   X,
@@ -63,6 +69,9 @@ struct buffer {
 
 /* A buffer as two arguments. */
 #define BYTES(buffer) (buffer).bytes, (buffer).length
+
+/* Points and circuit of a call, its first four inputs, as arguments. */
+#define OVER(call) BYTES((call)->in[0]), BYTES((call)->in[1]), BYTES((call)->in[2]), BYTES((call)->in[3])
 
 struct call {
   struct sizes sizes;
@@ -105,13 +114,20 @@ struct buffer slice(struct buffer buffer, size_t start, size_t length);
 void put_number(uint8_t *bytes, uint32_t number);
 uint32_t number_at(const uint8_t *bytes);
 
-/* The item, for m = 0 and n = 1, of a witness and a circuit without entries. */
-struct buffer item_of(uint32_t k, struct buffer witness);
+/* The item, for m = 0 and n = 1, of a witness over points that pass, and a circuit without entries. */
+struct buffer item_of(uint32_t k, struct buffer points, struct buffer witness);
+
+/* The codeword's value at a position, for points that are lent: the sum of w_j * (point at the position)^j. */
+uint32_t value_at(struct buffer points, size_t position, struct buffer witness);
 
 /* ---- Inputs, for target.c, input.c and mutator.c */
 
+/* Which points an input lends. */
+enum which { NO_POINTS, BUILT_IN, LENT };
+
 struct input {
   struct sizes sizes;
+  enum which points; /* NO_POINTS where the call takes none */
   int32_t more[MOST_BUFFERS];   /* what is added to the buffers' lengths, inputs first */
   size_t lengths[MOST_BUFFERS]; /* the lengths that result */
   uint8_t contents[MOST_INPUTS][LONGEST];
@@ -130,6 +146,13 @@ size_t output_count(void);
 size_t buffer_count(void);
 enum part part_of(size_t buffer);
 bool reads_sheet(void);
+bool takes_points(void);
+
+/* Puts the built-in points for k into a buffer, as many as fit, and zeros behind them. */
+void put_built_in(uint8_t *bytes, size_t length, uint32_t k);
+
+/* Whether points pass check 12: none is p or more, none repeats another. */
+bool points_pass(struct buffer points);
 
 /* log2(4k), from the last bits of k alone: those of 2^30 more are the same. */
 uint32_t depth_of(uint32_t k);

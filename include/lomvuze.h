@@ -1,8 +1,8 @@
 /*
  * Lomvuze: fold up to 8 items into one, verify the fold, decide the item that is left.
  *
- * An item is what the calls test: a claim about one circuit (R1CS), a point r and a witness under a
- * root. A statement is what somebody hands in; lomvuze_cast makes an item of it.
+ * An item is what the calls test: a claim about one circuit (R1CS), m numbers r and a witness under
+ * a root. A statement is what somebody hands in; lomvuze_cast makes an item of it.
  *
  * Link with liblomvuze.so or liblomvuze.a (x86-64 Linux). For C11 and C++11; lomvuze.hpp has the
  * same calls for C++ containers.
@@ -24,8 +24,9 @@
  *   entries    0 to 1024 times row, column, value: one of a circuit's lists A, B and C, strictly
  *              ascending by row and then column. Rows are below 2^m, columns below n + k: the
  *              public inputs first, then the witness.
+ *   points     4k elements, all different, or an empty buffer for the built-in ones: see POINTS
  *   witness    k elements
- *   codeword   4k elements
+ *   codeword   4k elements: the value at point i stands at position i
  *   item       e, r (m elements), x (n elements), root (a digest)
  *   quotient   (l - 1) * (m + 1) elements, the coefficient of X^0 first
  *   positions  t numbers below 4k
@@ -33,6 +34,29 @@
  *              leaf upwards. The position is not among its bytes, but is hashed in its leaf.
  *
  * Several items, witnesses or openings follow one another without gaps.
+ *
+ * POINTS
+ *
+ * The codeword of a witness w has, at position i, the sum over j of w_j * (point i)^j. The points
+ * are the first buffer of encode, cast, quotient, fold, open and decide:
+ *
+ *   empty      The built-in points: point i is g^i, where g = 31^((p - 1) / 4k). Pass
+ *              LOMVUZE_BUILT_IN_POINTS, which is two arguments.
+ *   4k points  Your own, in any order, which is the order of the positions. 0 and p - 1 are points
+ *              like others. Where one repeats another or is p or more, LOMVUZE_POINTS refuses. The
+ *              built-in points, lent by hand, give what the empty buffer gives, but more slowly:
+ *              over lent points a codeword is worked out by its sums.
+ *
+ * Lend every call on a batch one and the same list. Over other points, or over the same in another
+ * order, a witness has in general another codeword, and so another root and other openings:
+ * quotient, fold and decide then refuse by LOMVUZE_ROOT, and verify refuses by LOMVUZE_OPENING.
+ *
+ * Verify takes no points: it compares opened values position by position. What many challenges show
+ * (see below) holds where every decision was lent one and the same list that passes LOMVUZE_POINTS,
+ * because values at k different positions fix one witness only where their points are different.
+ *
+ * Before version 0.3.0 no call took points. Six calls have a new first buffer, so programs are
+ * compiled anew; with LOMVUZE_BUILT_IN_POINTS the calls answer and write what they did.
  *
  * ROOTS
  *
@@ -81,8 +105,10 @@
  *      and new item, its root too), and not by the prover. With fewer that are known beforehand, a
  *      new witness that fits them and holds can be found for a false item.
  *   5. lomvuze_verify and lomvuze_decide get the same bytes (the new item and the sizes), and
- *      lomvuze_decide gets the circuit that was agreed on. Otherwise a fold of a false item is
- *      verified, another item is decided, and both answer 0.
+ *      lomvuze_decide gets the circuit and the points that were agreed on. Otherwise a fold of a
+ *      false item is verified, another item is decided, and both answer 0. Points that are picked
+ *      for a root of 4k different values make it that of many witnesses: then the very item that
+ *      was verified is decided with another witness.
  *   6. Both answers are 0. lomvuze_verify sees no circuit and no witness, lomvuze_decide sees one
  *      item: for a fold of a false item the one answers 0 and the other LOMVUZE_CLAIM.
  *   7. Where a new item is folded again, its own fold is verified, answer 0, with the very bytes
@@ -95,10 +121,11 @@
  * than deciding those new items would: no theorem is about depth.
  *
  * What it does not establish: that any of the items holds, or that a root is that of a codeword.
- * Accepted at more than (l - 1) * (m + 2) challenges, with the same circuit, items, quotient and k
- * different positions, each of the l items holds with the one witness that the opened values fix,
- * or two different strings with one SHA-256 digest were hashed. An item that holds at its r is not
- * yet every row holding. A field of 31 bits gives no security level by itself.
+ * Accepted at more than (l - 1) * (m + 2) challenges, with the same circuit, points, items,
+ * quotient and k different positions, each of the l items holds with the one witness that the
+ * opened values fix, or two different strings with one SHA-256 digest were hashed. An item that
+ * holds at its r is not yet every row holding. A field of 31 bits gives no security level by
+ * itself.
  *
  * THE CALLS, IN THE ORDER OF USE
  *
@@ -122,15 +149,16 @@
  * ANSWERS
  *
  * Each of the eight calls and the sheet reader returns 0 or the number of the first of its checks
- * that fails (enum lomvuze_answer). Each check covers the whole input before the next one runs.
- * What a call returns and writes depends on its arguments alone.
+ * that fails (enum lomvuze_answer). Each check covers the whole input before the next one runs, in
+ * the order that stands at each call: LOMVUZE_POINTS, which is 12, comes directly after 3. What a
+ * call returns and writes depends on its arguments alone.
  *
  * A call that does not return 0 has written nothing: its output buffers are as they were.
  *
  * MEMORY
  *
  * - No pointer may be null, not even that of an empty buffer: see LOMVUZE_EMPTY. (The quotient of
- *   one item is empty, and so is r for m = 0.)
+ *   one item is empty, and so are r for m = 0 and the points where the built-in ones are meant.)
  * - Input buffers may overlap each other. An output buffer must not overlap any other buffer of
  *   the same call.
  * - Buffers need no alignment, but for sizes_out of lomvuze_read_sheet.
@@ -148,7 +176,7 @@
  *     lomvuze_interleave   512
  *     lomvuze_verify     2,560
  *     lomvuze_decide     4,608
- *     lomvuze_read_sheet 50,176
+ *     lomvuze_read_sheet 50,688
  *
  * - The time that a call takes may depend on the numbers in its buffers.
  */
@@ -165,7 +193,7 @@ extern "C" {
 /* ---- The version of this header: numbers, and the text "MAJOR.MINOR.PATCH" */
 
 #define LOMVUZE_VERSION_MAJOR 0
-#define LOMVUZE_VERSION_MINOR 2
+#define LOMVUZE_VERSION_MINOR 3
 #define LOMVUZE_VERSION_PATCH 0
 #define LOMVUZE_VERSION \
   LOMVUZE_TEXT(LOMVUZE_VERSION_MAJOR, LOMVUZE_VERSION_MINOR, LOMVUZE_VERSION_PATCH)
@@ -245,7 +273,9 @@ extern "C" {
   LOMVUZE_LENGTH(LOMVUZE_IS_K(k) && LOMVUZE_AS_SIZE(l) <= LOMVUZE_MAX_PAIRS, \
                  LOMVUZE_AS_SIZE(l) * LOMVUZE_WITNESS_BYTES(k))
 
+/* A codeword, and points that are lent. */
 #define LOMVUZE_CODEWORD_BYTES(k) LOMVUZE_LENGTH(LOMVUZE_IS_K(k), LOMVUZE_AS_SIZE(k) * 16)
+#define LOMVUZE_POINTS_BYTES(k) LOMVUZE_LENGTH(LOMVUZE_IS_K(k), LOMVUZE_AS_SIZE(k) * 16)
 
 /* Where an item's root starts, the item, and l items, up to LOMVUZE_MAX_PAIRS. */
 #define LOMVUZE_ITEM_ROOT(m, n)                      \
@@ -288,7 +318,8 @@ extern "C" {
 /*
  * ---- Empty buffers
  *
- * LOMVUZE_EMPTY is an empty buffer as two arguments, for an input or an output. lomvuze_in and
+ * LOMVUZE_EMPTY is an empty buffer as two arguments, for an input or an output, and
+ * LOMVUZE_BUILT_IN_POINTS the same in the place of points. lomvuze_in and
  * lomvuze_out are for a buffer that may be empty: where the length is 0 they give a pointer that is
  * not null, whatever the buffer's own is (null from malloc(0), or from an empty std::vector), and
  * else the buffer's own. (Null itself, with length 0, does no harm in the library as it is compiled
@@ -308,6 +339,7 @@ static inline uint8_t *lomvuze_out(uint8_t *bytes, size_t length) {
 }
 
 #define LOMVUZE_EMPTY lomvuze_empty(), 0
+#define LOMVUZE_BUILT_IN_POINTS LOMVUZE_EMPTY
 
 /* ---- Answers */
 
@@ -346,20 +378,25 @@ enum lomvuze_answer {
   LOMVUZE_ROOT = 10,
 
   /* An item does not hold with its witness. */
-  LOMVUZE_CLAIM = 11
+  LOMVUZE_CLAIM = 11,
+
+  /* A point repeats another, or is p or more. */
+  LOMVUZE_POINTS = 12
 };
 
 /*
  * Writes the codeword of a witness and the root of the tree over it.
  *
+ *   points    LOMVUZE_POINTS_BYTES(k), or none for the built-in points
  *   w         LOMVUZE_WITNESS_BYTES(k)
- *   code_out  LOMVUZE_CODEWORD_BYTES(k): at position i the sum over j of w_j * (g^i)^j, where
- *             g = 31^((p - 1) / 4k)
+ *   code_out  LOMVUZE_CODEWORD_BYTES(k): at position i the sum over j of w_j * (point i)^j
  *   root_out  LOMVUZE_DIGEST_BYTES: see ROOTS above
  *
- * Checks, in this order: LOMVUZE_SIZE, LOMVUZE_ELEMENT.
+ * Checks, in this order: LOMVUZE_SIZE, LOMVUZE_ELEMENT, LOMVUZE_POINTS. A point of p or more is
+ * LOMVUZE_POINTS, not LOMVUZE_ELEMENT, here and in the calls below.
  */
 uint32_t lomvuze_encode(uint32_t k,
+                        const uint8_t *points, size_t points_len,
                         const uint8_t *w, size_t w_len,
                         uint8_t *code_out, size_t code_out_len,
                         uint8_t *root_out, size_t root_out_len);
@@ -368,15 +405,18 @@ uint32_t lomvuze_encode(uint32_t k,
  * Writes the item of a statement: e = 0, r and x as given, and the root of the witness's codeword.
  * Its value has to be 0, as it is for every r when every row of the circuit holds.
  *
+ *   points    LOMVUZE_POINTS_BYTES(k), or none for the built-in points
  *   a, b, c   LOMVUZE_ENTRIES_BYTES of up to LOMVUZE_MAX_ENTRIES entries each
  *   r         LOMVUZE_R_BYTES(m)
  *   x         LOMVUZE_X_BYTES(n)
  *   w         LOMVUZE_WITNESS_BYTES(k)
  *   item_out  LOMVUZE_ITEM_BYTES(m, n)
  *
- * Checks, in this order: LOMVUZE_SIZE, LOMVUZE_ELEMENT, LOMVUZE_CIRCUIT, LOMVUZE_CLAIM.
+ * Checks, in this order: LOMVUZE_SIZE, LOMVUZE_ELEMENT, LOMVUZE_POINTS, LOMVUZE_CIRCUIT,
+ * LOMVUZE_CLAIM.
  */
 uint32_t lomvuze_cast(uint32_t m, uint32_t n, uint32_t k,
+                      const uint8_t *points, size_t points_len,
                       const uint8_t *a, size_t a_len,
                       const uint8_t *b, size_t b_len,
                       const uint8_t *c, size_t c_len,
@@ -388,15 +428,17 @@ uint32_t lomvuze_cast(uint32_t m, uint32_t n, uint32_t k,
 /*
  * Writes the quotient of l items.
  *
+ *   points        LOMVUZE_POINTS_BYTES(k), or none for the built-in points
  *   a, b, c       LOMVUZE_ENTRIES_BYTES of up to LOMVUZE_MAX_ENTRIES entries each
  *   items         LOMVUZE_ITEMS_BYTES(m, n, l)
  *   wits          LOMVUZE_WITNESSES_BYTES(k, l): item i's witness at place i
  *   quotient_out  LOMVUZE_QUOTIENT_BYTES(m, l)
  *
- * Checks, in this order: LOMVUZE_SIZE, LOMVUZE_ELEMENT, LOMVUZE_CIRCUIT, LOMVUZE_ROOT,
- * LOMVUZE_CLAIM.
+ * Checks, in this order: LOMVUZE_SIZE, LOMVUZE_ELEMENT, LOMVUZE_POINTS, LOMVUZE_CIRCUIT,
+ * LOMVUZE_ROOT, LOMVUZE_CLAIM.
  */
 uint32_t lomvuze_quotient(uint32_t m, uint32_t n, uint32_t k, uint32_t l,
+                          const uint8_t *points, size_t points_len,
                           const uint8_t *a, size_t a_len,
                           const uint8_t *b, size_t b_len,
                           const uint8_t *c, size_t c_len,
@@ -408,6 +450,7 @@ uint32_t lomvuze_quotient(uint32_t m, uint32_t n, uint32_t k, uint32_t l,
  * Folds l items at a challenge: writes their quotient, the new item and the new witness.
  *
  *   challenge     l to p - 1
+ *   points        LOMVUZE_POINTS_BYTES(k), or none for the built-in points
  *   a, b, c       LOMVUZE_ENTRIES_BYTES of up to LOMVUZE_MAX_ENTRIES entries each
  *   items         LOMVUZE_ITEMS_BYTES(m, n, l)
  *   wits          LOMVUZE_WITNESSES_BYTES(k, l): item i's witness at place i
@@ -415,11 +458,13 @@ uint32_t lomvuze_quotient(uint32_t m, uint32_t n, uint32_t k, uint32_t l,
  *   item_out      LOMVUZE_ITEM_BYTES(m, n)
  *   wit_out       LOMVUZE_WITNESS_BYTES(k)
  *
- * Checks, in this order: LOMVUZE_SIZE, LOMVUZE_ELEMENT, LOMVUZE_CIRCUIT, LOMVUZE_CHALLENGE,
- * LOMVUZE_ROOT, LOMVUZE_CLAIM. A challenge of p or more is LOMVUZE_CHALLENGE, not LOMVUZE_ELEMENT.
+ * Checks, in this order: LOMVUZE_SIZE, LOMVUZE_ELEMENT, LOMVUZE_POINTS, LOMVUZE_CIRCUIT,
+ * LOMVUZE_CHALLENGE, LOMVUZE_ROOT, LOMVUZE_CLAIM. A challenge of p or more is LOMVUZE_CHALLENGE,
+ * not LOMVUZE_ELEMENT.
  */
 uint32_t lomvuze_fold(uint32_t m, uint32_t n, uint32_t k, uint32_t l,
                       uint32_t challenge,
+                      const uint8_t *points, size_t points_len,
                       const uint8_t *a, size_t a_len,
                       const uint8_t *b, size_t b_len,
                       const uint8_t *c, size_t c_len,
@@ -432,13 +477,15 @@ uint32_t lomvuze_fold(uint32_t m, uint32_t n, uint32_t k, uint32_t l,
 /*
  * Writes the openings of one witness's codeword at t positions, in the order of the positions.
  *
+ *   points        LOMVUZE_POINTS_BYTES(k), or none for the built-in points
  *   w             LOMVUZE_WITNESS_BYTES(k)
  *   positions     LOMVUZE_POSITIONS_BYTES(t)
  *   openings_out  LOMVUZE_OPENINGS_BYTES(k, t)
  *
- * Checks, in this order: LOMVUZE_SIZE, LOMVUZE_ELEMENT, LOMVUZE_POSITION.
+ * Checks, in this order: LOMVUZE_SIZE, LOMVUZE_ELEMENT, LOMVUZE_POINTS, LOMVUZE_POSITION.
  */
 uint32_t lomvuze_open(uint32_t k, uint32_t t,
+                      const uint8_t *points, size_t points_len,
                       const uint8_t *w, size_t w_len,
                       const uint8_t *positions, size_t positions_len,
                       uint8_t *openings_out, size_t openings_out_len);
@@ -459,8 +506,8 @@ uint32_t lomvuze_interleave(uint32_t k, uint32_t l, uint32_t t,
                             uint8_t *openings_out, size_t openings_out_len);
 
 /*
- * Verifies a fold of l items at t positions. It sees neither circuit nor witness, and has no output
- * buffer.
+ * Verifies a fold of l items at t positions. It sees neither circuit nor witness, takes no points,
+ * and has no output buffer.
  *
  *   challenge  l to p - 1
  *   items      LOMVUZE_ITEMS_BYTES(m, n, l)
@@ -486,14 +533,16 @@ uint32_t lomvuze_verify(uint32_t m, uint32_t n, uint32_t k, uint32_t l, uint32_t
 /*
  * Decides an item with its witness. It has no output buffer.
  *
+ *   points   LOMVUZE_POINTS_BYTES(k), or none for the built-in points
  *   a, b, c  LOMVUZE_ENTRIES_BYTES of up to LOMVUZE_MAX_ENTRIES entries each
  *   item     LOMVUZE_ITEM_BYTES(m, n)
  *   wit      LOMVUZE_WITNESS_BYTES(k)
  *
- * Checks, in this order: LOMVUZE_SIZE, LOMVUZE_ELEMENT, LOMVUZE_CIRCUIT, LOMVUZE_ROOT,
- * LOMVUZE_CLAIM.
+ * Checks, in this order: LOMVUZE_SIZE, LOMVUZE_ELEMENT, LOMVUZE_POINTS, LOMVUZE_CIRCUIT,
+ * LOMVUZE_ROOT, LOMVUZE_CLAIM.
  */
 uint32_t lomvuze_decide(uint32_t m, uint32_t n, uint32_t k,
+                        const uint8_t *points, size_t points_len,
                         const uint8_t *a, size_t a_len,
                         const uint8_t *b, size_t b_len,
                         const uint8_t *c, size_t c_len,

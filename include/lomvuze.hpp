@@ -7,6 +7,8 @@
  *     std::array, std::span; to read, also std::string. It may be empty, and its pointer null.
  *   - an array of uint8_t, {pointer, length}, or {}, which is empty.
  *
+ * For the built-in points pass {}, or built_in_points(), which says so.
+ *
  * Nothing else differs: lomvuze.h says what each call takes, answers and writes. Lengths must be
  * exact, so no container is resized. Nothing is copied, and nothing is thrown.
  */
@@ -68,30 +70,37 @@ class out {
   size_t count;
 };
 
-inline uint32_t encode(uint32_t k, in w, out code, out root) noexcept {
-  return lomvuze_encode(k, w.data(), w.size(), code.data(), code.size(), root.data(), root.size());
+/* The built-in points: an empty buffer. */
+inline in built_in_points() noexcept { return in(); }
+
+inline uint32_t encode(uint32_t k, in points, in w, out code, out root) noexcept {
+  return lomvuze_encode(k, points.data(), points.size(), w.data(), w.size(), code.data(), code.size(), root.data(),
+                        root.size());
 }
 
-inline uint32_t cast(uint32_t m, uint32_t n, uint32_t k, in a, in b, in c, in r, in x, in w, out item) noexcept {
-  return lomvuze_cast(m, n, k, a.data(), a.size(), b.data(), b.size(), c.data(), c.size(), r.data(), r.size(),
-                      x.data(), x.size(), w.data(), w.size(), item.data(), item.size());
+inline uint32_t cast(uint32_t m, uint32_t n, uint32_t k, in points, in a, in b, in c, in r, in x, in w,
+                     out item) noexcept {
+  return lomvuze_cast(m, n, k, points.data(), points.size(), a.data(), a.size(), b.data(), b.size(), c.data(),
+                      c.size(), r.data(), r.size(), x.data(), x.size(), w.data(), w.size(), item.data(), item.size());
 }
 
-inline uint32_t quotient(uint32_t m, uint32_t n, uint32_t k, uint32_t l, in a, in b, in c, in items, in wits,
-                         out quotient) noexcept {
-  return lomvuze_quotient(m, n, k, l, a.data(), a.size(), b.data(), b.size(), c.data(), c.size(), items.data(),
-                          items.size(), wits.data(), wits.size(), quotient.data(), quotient.size());
+inline uint32_t quotient(uint32_t m, uint32_t n, uint32_t k, uint32_t l, in points, in a, in b, in c, in items,
+                         in wits, out quotient) noexcept {
+  return lomvuze_quotient(m, n, k, l, points.data(), points.size(), a.data(), a.size(), b.data(), b.size(), c.data(),
+                          c.size(), items.data(), items.size(), wits.data(), wits.size(), quotient.data(),
+                          quotient.size());
 }
 
-inline uint32_t fold(uint32_t m, uint32_t n, uint32_t k, uint32_t l, uint32_t challenge, in a, in b, in c, in items,
-                     in wits, out quotient, out item, out wit) noexcept {
-  return lomvuze_fold(m, n, k, l, challenge, a.data(), a.size(), b.data(), b.size(), c.data(), c.size(), items.data(),
-                      items.size(), wits.data(), wits.size(), quotient.data(), quotient.size(), item.data(),
-                      item.size(), wit.data(), wit.size());
+inline uint32_t fold(uint32_t m, uint32_t n, uint32_t k, uint32_t l, uint32_t challenge, in points, in a, in b, in c,
+                     in items, in wits, out quotient, out item, out wit) noexcept {
+  return lomvuze_fold(m, n, k, l, challenge, points.data(), points.size(), a.data(), a.size(), b.data(), b.size(),
+                      c.data(), c.size(), items.data(), items.size(), wits.data(), wits.size(), quotient.data(),
+                      quotient.size(), item.data(), item.size(), wit.data(), wit.size());
 }
 
-inline uint32_t open(uint32_t k, uint32_t t, in w, in positions, out openings) noexcept {
-  return lomvuze_open(k, t, w.data(), w.size(), positions.data(), positions.size(), openings.data(), openings.size());
+inline uint32_t open(uint32_t k, uint32_t t, in points, in w, in positions, out openings) noexcept {
+  return lomvuze_open(k, t, points.data(), points.size(), w.data(), w.size(), positions.data(), positions.size(),
+                      openings.data(), openings.size());
 }
 
 inline uint32_t interleave(uint32_t k, uint32_t l, uint32_t t, in opened, out openings) noexcept {
@@ -105,9 +114,9 @@ inline uint32_t verify(uint32_t m, uint32_t n, uint32_t k, uint32_t l, uint32_t 
                         openings.size());
 }
 
-inline uint32_t decide(uint32_t m, uint32_t n, uint32_t k, in a, in b, in c, in item, in wit) noexcept {
-  return lomvuze_decide(m, n, k, a.data(), a.size(), b.data(), b.size(), c.data(), c.size(), item.data(), item.size(),
-                        wit.data(), wit.size());
+inline uint32_t decide(uint32_t m, uint32_t n, uint32_t k, in points, in a, in b, in c, in item, in wit) noexcept {
+  return lomvuze_decide(m, n, k, points.data(), points.size(), a.data(), a.size(), b.data(), b.size(), c.data(),
+                        c.size(), item.data(), item.size(), wit.data(), wit.size());
 }
 
 inline uint32_t read_sheet(in sheet, out a, out b, out c, out items, out wits, uint32_t (&sizes)[7]) noexcept {

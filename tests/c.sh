@@ -18,7 +18,7 @@ ways=0
 for compiler in gcc clang; do
     command -v $compiler >/dev/null || continue
     for standard in c11 c17; do
-        for source in c/*.c tests/c/*.c examples/c/{fold_batch,verify_batch,decide_one}.c; do
+        for source in c/*.c tests/c/*.c examples/c/{fold_batch,verify_batch,decide_one,own_points}.c; do
             $compiler -std=$standard "${flags[@]}" -Wstrict-prototypes -fsyntax-only $source
         done
         ways=$((ways + 1))
@@ -45,7 +45,7 @@ for program in lengths lengths_plus plain containers; do
 done
 
 # ---- The examples
-for program in fold_batch verify_batch; do
+for program in fold_batch verify_batch own_points; do
     cc -std=c11 -O2 "${flags[@]}" -o "$folder/$program" "examples/c/$program.c" $library
 done
 
@@ -66,6 +66,11 @@ damage() {
     cp "examples/c/$1" "$folder/damaged.bin"
     printf "$3" | dd of="$folder/damaged.bin" bs=1 seek="$2" conv=notrunc status=none
 }
+
+# own_points, which takes no file.
+${LOMVUZE_RUN:-} "$folder/own_points" | diff examples/c/own_points.expected - || { echo 'FAILED: own_points'; exit 1; }
+passed=$((passed + 1))
+[[ "$(cat examples/c/README.md)" == *"$(cat examples/c/own_points.expected)"* ]] || { echo 'FAILED: examples/c/README.md shows another output of own_points'; exit 1; }
 
 # fold_batch.
 # Header: 44 bytes. Circuit: 15 entries of 12. Items: 8 of 60. Witnesses: 8 of 32. Positions: 64.

@@ -66,6 +66,7 @@ noticed() { # noticed SED-SCRIPT: a header that the script changes is another on
     controls=$((controls + 1))
 }
 noticed '/^uint32_t lomvuze_decide(/,/;/s/const uint8_t \*item/uint8_t *item/'
+noticed '/^uint32_t lomvuze_decide(/,/;/{/points/d}'
 noticed '/^uint32_t lomvuze_open(/,/;/s/uint8_t \*openings_out/const uint8_t *openings_out/'
 noticed '/^uint32_t lomvuze_cast(/,/;/s/size_t r_len/uint32_t r_len/'
 noticed '/^uint32_t lomvuze_fold(/,/;/{s/items/other/g;s/wits/items/g;s/other/wits/g}'

@@ -13,6 +13,8 @@ examples="$to/share/doc/lomvuze/examples"
 export PKG_CONFIG_LIBDIR="$to/lib/pkgconfig"
 
 make -s install PREFIX="$to"
+version=$(pkg-config --modversion lomvuze)
+soname=liblomvuze.so.${version%.*}
 
 # ---- Programs over the installed files alone. Flags of a path with a space are quoted for a shell.
 build() { # build COMPILER FLAGS KIND NAME SOURCE
@@ -33,7 +35,7 @@ for kind in shared static archive; do
     "$folder/decide_one.$kind" | diff <(printf 'cast 0: accepted\ndecide 0: accepted\nthe verdict covers this one item\n') -
     "$folder/containers.$kind" >/dev/null
     unset LD_LIBRARY_PATH
-    needed=$(readelf -d "$folder/fold_batch.$kind" | grep -c 'NEEDED.*liblomvuze.so.0' || true)
+    needed=$(readelf -d "$folder/fold_batch.$kind" | grep -cF "[$soname]" || true)
     [ "$needed" = "$([ $kind = shared ] && echo 1 || echo 0)" ] || fail "$kind: the program is linked in another way"
 done
 "$to/bin/claims" <"$examples/sheets/printed.sheet" | diff examples/sheets/printed.listing -
@@ -42,10 +44,9 @@ done
 declared=$(sed -n 's/^\(uint32_t \|const char \*\)\(lomvuze_[a-z_]*\)(.*/\2/p' "$to/include/lomvuze.h" | sort)
 diff <(echo "$declared") <(nm -D --defined-only "$to/lib/liblomvuze.so" | awk '{ print $NF }' | sort) || fail 'the shared library (>) exports other names than the header declares (<)'
 diff <(echo "$declared") <(nm --defined-only --extern-only "$to/lib/liblomvuze.a" | awk 'NF == 3 { print $3 }' | sort) || fail 'the archive (>) has other global names'
-version=$(pkg-config --modversion lomvuze)
-[ "$(readlink "$to/lib/liblomvuze.so")" = liblomvuze.so.0 ] && [ "$(readlink "$to/lib/liblomvuze.so.0")" = "liblomvuze.so.$version" ] || fail 'the links'
+[ "$(readlink "$to/lib/liblomvuze.so")" = "$soname" ] && [ "$(readlink "$to/lib/$soname")" = "liblomvuze.so.$version" ] || fail 'the links'
 readelf -d "$to/lib/liblomvuze.so" >"$folder/dynamic"
-grep -q 'SONAME.*\[liblomvuze.so.0\]' "$folder/dynamic" || fail 'the soname'
+grep SONAME "$folder/dynamic" | grep -qF "[$soname]" || fail 'the soname'
 ! grep -q TEXTREL "$folder/dynamic" || fail 'the shared library has text relocations'
 printf '#include <lomvuze.h>\n#include <stdio.h>\nint main(void) { puts(lomvuze_version()); }\n' >"$folder/version.c"
 build cc -std=c11 archive version "$folder/version.c"

@@ -1,7 +1,7 @@
 #!/usr/bin/env bash
 # Builds the exported calls and the layers below them as static libraries and runs the Rust tests: the independent implementation against
 # the standards' vectors and the paper's cases, the proved library against it, and the crate for Rust services, with its examples and its pages. The
-# proved transform may take at most twice as long as the same in plain Rust.
+# proved transform may take at most twice as long as the same in plain Rust, and the test of lent points at most a tenth of encoding over them.
 # LOMVUZE_STATICLIB names another folder with both libraries in it; nothing is built there.
 set -euo pipefail
 cd "$(dirname "$0")/.."
@@ -14,6 +14,9 @@ cargo test --release --offline --manifest-path rust/Cargo.toml
 # ---- 10,000 codewords: the last line says how long the proved transform takes beside plain Rust
 table=$(cargo run --quiet --release --offline --manifest-path rust/Cargo.toml -p bench --bin codewords) || { printf '%s\n' "$table"; exit 1; }
 tail -n 1 <<<"$table"
+
+# ---- The test of lent points beside encoding over them
+cargo run --quiet --release --offline --manifest-path rust/Cargo.toml -p bench --bin points
 
 # ---- The examples of the crate
 

@@ -12,11 +12,12 @@ int main(void) {
   const uint8_t w[8] = {2, 0, 0, 0, 3};
   uint8_t item[LOMVUZE_ITEM_BYTES(0, 1)];
   /* m = 0: r is empty. */
-  uint32_t answer = lomvuze_cast(0, 1, 2, a, sizeof a, b, sizeof b, c, sizeof c, LOMVUZE_EMPTY, x, sizeof x, w, sizeof w,
-                                 item, sizeof item);
+  uint32_t answer = lomvuze_cast(0, 1, 2, LOMVUZE_BUILT_IN_POINTS, a, sizeof a, b, sizeof b, c, sizeof c, LOMVUZE_EMPTY,
+                                 x, sizeof x, w, sizeof w, item, sizeof item);
   printf("cast %" PRIu32 ": %s\n", answer, lomvuze_strerror(answer));
   if (answer != LOMVUZE_ACCEPTED) return 1;
-  answer = lomvuze_decide(0, 1, 2, a, sizeof a, b, sizeof b, c, sizeof c, item, sizeof item, w, sizeof w);
+  answer = lomvuze_decide(0, 1, 2, LOMVUZE_BUILT_IN_POINTS, a, sizeof a, b, sizeof b, c, sizeof c,
+                          item, sizeof item, w, sizeof w);
   printf("decide %" PRIu32 ": %s\n", answer, lomvuze_strerror(answer));
   puts(answer == LOMVUZE_ACCEPTED ? "the verdict covers this one item" : "no item is covered");
   return answer == LOMVUZE_ACCEPTED ? 0 : 1;

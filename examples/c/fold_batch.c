@@ -46,6 +46,7 @@ static bool open_witness(const struct front *f, uint32_t i, const uint8_t *witne
   char call[32] = "new item, open";
   if (i < f->l) snprintf(call, sizeof call, "item %" PRIu32 ", open", i);
   return report(call, lomvuze_open(f->k, f->t,
+                                   LOMVUZE_BUILT_IN_POINTS,
                                    witness, LOMVUZE_WITNESS_BYTES(f->k),
                                    positions.bytes, positions.length,
                                    opened + i * each, each));
@@ -62,6 +63,7 @@ static bool open_all(const struct front *f, const uint8_t *witnesses, struct par
 
 static bool fold(const struct front *f, struct part witnesses) {
   return report("fold", lomvuze_fold(f->m, f->n, f->k, f->l, f->challenge,
+                                     LOMVUZE_BUILT_IN_POINTS,
                                      f->a.bytes, f->a.length,
                                      f->b.bytes, f->b.length,
                                      f->c.bytes, f->c.length,
@@ -83,6 +85,7 @@ static bool verify(const struct front *f, struct part positions) {
 
 static bool decide(const struct front *f) {
   return report("decide", lomvuze_decide(f->m, f->n, f->k,
+                                         LOMVUZE_BUILT_IN_POINTS,
                                          f->a.bytes, f->a.length,
                                          f->b.bytes, f->b.length,
                                          f->c.bytes, f->c.length,

@@ -1,5 +1,5 @@
 /*
- * Prints the root of a witness as 64 hexadecimal digits, as an `item` line of a sheet has it.
+ * Prints the root of a witness over the built-in points as 64 hexadecimal digits, as an `item` line of a sheet has it.
  *
  *   root NUMBER...
  *
@@ -36,7 +36,8 @@ int main(int argc, char **argv) {
     return 2;
   }
   uint32_t k = (uint32_t)(argc - 1);
-  uint32_t answer = lomvuze_encode(k, witness, LOMVUZE_WITNESS_BYTES(k), codeword, LOMVUZE_CODEWORD_BYTES(k), root, sizeof root);
+  uint32_t answer = lomvuze_encode(k, LOMVUZE_BUILT_IN_POINTS, witness, LOMVUZE_WITNESS_BYTES(k), codeword, LOMVUZE_CODEWORD_BYTES(k),
+                                   root, sizeof root);
   if (answer != LOMVUZE_ACCEPTED) {
     fprintf(stderr, "refused %" PRIu32 ": %s\n", answer, lomvuze_strerror(answer));
     return 1;

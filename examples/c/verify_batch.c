@@ -31,6 +31,7 @@ int main(int argc, char **argv) {
                                                   item.bytes, item.length,
                                                   openings.bytes, openings.length));
   bool decided = report("decide", lomvuze_decide(f.m, f.n, f.k,
+                                                 LOMVUZE_BUILT_IN_POINTS,
                                                  f.a.bytes, f.a.length,
                                                  f.b.bytes, f.b.length,
                                                  f.c.bytes, f.c.length,

@@ -19,6 +19,9 @@ mod leaves;
 #[path = "edges/order.rs"]
 mod order;
 
+#[path = "edges/points.rs"]
+mod points;
+
 #[path = "edges/sizes.rs"]
 mod sizes;
 

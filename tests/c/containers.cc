@@ -1,6 +1,6 @@
 /*
- * lomvuze.hpp: the whole chain over containers, two items of w0 * w1 = x0, with empty vectors whose pointer is null. What lomvuze.h writes for the
- * same arguments is the same. Prints one line; the exit status is 1 where something fails.
+ * lomvuze.hpp: the whole chain over containers, two items of w0 * w1 = x0, over the built-in points and over others, with empty vectors whose pointer
+ * is null. What lomvuze.h writes for the same arguments is the same. Prints one line; the exit status is 1 where something fails.
  */
 #include "lomvuze.hpp"
 
@@ -49,43 +49,58 @@ static bytes operator+(bytes first, const bytes &second) {
   return first;
 }
 
-static void chain() {
+static void chain(const bytes &points) {
   const bytes a = numbers({0, 1, 1}), b = numbers({0, 2, 1}), c = numbers({0, 0, 1}), r;
   const bytes w0 = numbers({2, 3}), w1 = numbers({4, 5}), wits = w0 + w1, positions = numbers({7, 0, 4});
   bytes item0(LOMVUZE_ITEM_BYTES(0, 1)), item1(item0.size()), item(item0.size()), w(w0.size());
   bytes quotient(LOMVUZE_QUOTIENT_BYTES(0, 2)), same(quotient.size());
   REQUIRE(r.data() == nullptr);
-  REQUIRE(lomvuze::cast(0, 1, 2, a, b, c, r, numbers({6}), w0, item0) == LOMVUZE_ACCEPTED);
-  REQUIRE(lomvuze::cast(0, 1, 2, a, b, c, {}, numbers({20}), w1, item1) == LOMVUZE_ACCEPTED);
-  REQUIRE(lomvuze::cast(0, 1, 2, a, b, c, r, numbers({21}), w1, item) == LOMVUZE_CLAIM);
+  REQUIRE(lomvuze::cast(0, 1, 2, points, a, b, c, r, numbers({6}), w0, item0) == LOMVUZE_ACCEPTED);
+  REQUIRE(lomvuze::cast(0, 1, 2, points, a, b, c, {}, numbers({20}), w1, item1) == LOMVUZE_ACCEPTED);
+  REQUIRE(lomvuze::cast(0, 1, 2, points, a, b, c, r, numbers({21}), w1, item) == LOMVUZE_CLAIM);
   const bytes items = item0 + item1;
-  REQUIRE(lomvuze::quotient(0, 1, 2, 2, a, b, c, items, wits, same) == LOMVUZE_ACCEPTED);
-  REQUIRE(lomvuze::fold(0, 1, 2, 2, 2, a, b, c, items, wits, quotient, item, w) == LOMVUZE_ACCEPTED);
+  REQUIRE(lomvuze::quotient(0, 1, 2, 2, points, a, b, c, items, wits, same) == LOMVUZE_ACCEPTED);
+  REQUIRE(lomvuze::fold(0, 1, 2, 2, 2, points, a, b, c, items, wits, quotient, item, w) == LOMVUZE_ACCEPTED);
   REQUIRE(quotient == numbers({4}) && quotient == same && w == numbers({6, 7}));
 
   bytes opened, openings(LOMVUZE_ALL_OPENINGS_BYTES(2, 2, 3));
   for (const bytes &witness : {w0, w1, w}) {
     bytes one(LOMVUZE_OPENINGS_BYTES(2, 3));
-    REQUIRE(lomvuze::open(2, 3, witness, positions, one) == LOMVUZE_ACCEPTED);
+    REQUIRE(lomvuze::open(2, 3, points, witness, positions, one) == LOMVUZE_ACCEPTED);
     opened = opened + one;
   }
   REQUIRE(lomvuze::interleave(2, 2, 3, opened, openings) == LOMVUZE_ACCEPTED);
   REQUIRE(lomvuze::verify(0, 1, 2, 2, 3, 2, items, positions, quotient, item, openings) == LOMVUZE_ACCEPTED);
-  REQUIRE(lomvuze::decide(0, 1, 2, a, b, c, item, w) == LOMVUZE_ACCEPTED);
-  REQUIRE(lomvuze::decide(0, 1, 2, a, b, c, item0, w) == LOMVUZE_ROOT);
-  REQUIRE(lomvuze::decide(0, 1, 2, b, a, a, item, w) == LOMVUZE_CLAIM);
+  REQUIRE(lomvuze::decide(0, 1, 2, points, a, b, c, item, w) == LOMVUZE_ACCEPTED);
+  REQUIRE(lomvuze::decide(0, 1, 2, points, a, b, c, item0, w) == LOMVUZE_ROOT);
+  REQUIRE(lomvuze::decide(0, 1, 2, points, b, a, a, item, w) == LOMVUZE_CLAIM);
+  REQUIRE(lomvuze::decide(0, 1, 2, numbers({1, 2, 3, 4, 5, 6, 7, 8}), a, b, c, item, w) == LOMVUZE_ROOT);
 }
 
-/* One item without a circuit: entries, r and quotient are empty, and so are the vectors' pointers null. */
+/* The codeword of (0, 1) is the list of points: the built-in ones, lent by hand, give what an empty buffer gives. Then what is refused. */
+static void lent_points() {
+  const bytes w = numbers({2, 3});
+  bytes points(LOMVUZE_POINTS_BYTES(2)), code(LOMVUZE_CODEWORD_BYTES(2)), same(code.size()), root(LOMVUZE_DIGEST_BYTES), same_root(root.size());
+  REQUIRE(lomvuze::encode(2, lomvuze::built_in_points(), numbers({0, 1}), points, root) == LOMVUZE_ACCEPTED);
+  REQUIRE(lomvuze::encode(2, {}, w, code, root) == LOMVUZE_ACCEPTED);
+  REQUIRE(lomvuze::encode(2, points, w, same, same_root) == LOMVUZE_ACCEPTED && code == same && root == same_root);
+  REQUIRE(lomvuze::encode(2, numbers({0, 1, 2, 3, 4, 5, 6, LOMVUZE_P - 1}), w, code, root) == LOMVUZE_ACCEPTED);
+  REQUIRE(code == numbers({2, 5, 8, 11, 14, 17, 20, LOMVUZE_P - 1}) && root != same_root);
+  REQUIRE(lomvuze::encode(2, numbers({0, 1, 2, 3, 4, 5, 6, 0}), w, code, root) == LOMVUZE_POINTS);
+  REQUIRE(lomvuze::encode(2, numbers({0, 1, 2, 3, 4, 5, 6, LOMVUZE_P}), w, code, root) == LOMVUZE_POINTS);
+  REQUIRE(lomvuze::encode(2, numbers({0, 1, 2, 3, 4, 5, 6}), w, code, root) == LOMVUZE_SIZE);
+}
+
+/* One item without a circuit: points, entries, r and quotient are empty, and so are the vectors' pointers null. */
 static void empty() {
   const bytes none, x = numbers({6}), w = numbers({2, 3});
   bytes quotient, item(LOMVUZE_ITEM_BYTES(0, 1)), new_item(item.size()), new_w(w.size());
   REQUIRE(none.data() == nullptr && quotient.data() == nullptr);
   REQUIRE(lomvuze::in(none).data() != nullptr && lomvuze::out(quotient).data() != nullptr);
-  REQUIRE(lomvuze::cast(0, 1, 2, none, none, none, none, x, w, item) == LOMVUZE_ACCEPTED);
-  REQUIRE(lomvuze::fold(0, 1, 2, 1, 1, none, none, none, item, w, quotient, new_item, new_w) == LOMVUZE_ACCEPTED);
-  REQUIRE(lomvuze_fold(0, 1, 2, 1, 1, LOMVUZE_EMPTY, LOMVUZE_EMPTY, LOMVUZE_EMPTY, item.data(), item.size(), w.data(), w.size(),
-                       lomvuze_out(quotient.data(), quotient.size()), quotient.size(), new_item.data(), new_item.size(), new_w.data(),
+  REQUIRE(lomvuze::cast(0, 1, 2, none, none, none, none, none, x, w, item) == LOMVUZE_ACCEPTED);
+  REQUIRE(lomvuze::fold(0, 1, 2, 1, 1, none, none, none, none, item, w, quotient, new_item, new_w) == LOMVUZE_ACCEPTED);
+  REQUIRE(lomvuze_fold(0, 1, 2, 1, 1, LOMVUZE_BUILT_IN_POINTS, LOMVUZE_EMPTY, LOMVUZE_EMPTY, LOMVUZE_EMPTY, item.data(), item.size(), w.data(),
+                       w.size(), lomvuze_out(quotient.data(), quotient.size()), quotient.size(), new_item.data(), new_item.size(), new_w.data(),
                        new_w.size()) == LOMVUZE_ACCEPTED);
   REQUIRE(new_item == item && new_w == w);
 }
@@ -94,9 +109,10 @@ static void other_kinds() {
   const std::array<uint8_t, 8> w = {{2, 0, 0, 0, 3, 0, 0, 0}};
   uint8_t code[LOMVUZE_CODEWORD_BYTES(2)];
   bytes root(LOMVUZE_DIGEST_BYTES), same(root.size());
-  REQUIRE(lomvuze::encode(2, w, code, root) == LOMVUZE_ACCEPTED);
-  REQUIRE(lomvuze::encode(2, {w.data(), 4}, code, root) == LOMVUZE_SIZE);
-  REQUIRE(lomvuze_encode(2, w.data(), w.size(), code, sizeof code, same.data(), same.size()) == LOMVUZE_ACCEPTED && root == same);
+  REQUIRE(lomvuze::encode(2, {}, w, code, root) == LOMVUZE_ACCEPTED);
+  REQUIRE(lomvuze::encode(2, {}, {w.data(), 4}, code, root) == LOMVUZE_SIZE);
+  REQUIRE(lomvuze_encode(2, LOMVUZE_BUILT_IN_POINTS, w.data(), w.size(), code, sizeof code, same.data(), same.size()) == LOMVUZE_ACCEPTED);
+  REQUIRE(root == same);
 
   const std::string zeros(64, '0'), sheet = "size\t0\t1\t2\nitem\t0\t6\t" + zeros + "\nwit\t2\t3\nend\t1\n";
   bytes entries[3], items(LOMVUZE_SHEET_ITEMS_BYTES), wits(LOMVUZE_SHEET_WITNESSES_BYTES);
@@ -106,14 +122,16 @@ static void other_kinds() {
   REQUIRE(sizes[2] == 2 && sizes[6] == 1 && wits[0] == 2 && wits[4] == 3);
   REQUIRE(lomvuze::read_sheet(std::string(), {}, {}, {}, {}, {}, sizes) == LOMVUZE_SHEET);
 #if __cplusplus >= 202002L
-  REQUIRE(lomvuze::encode(2, std::span(w), std::span(code), std::span(root).first(32)) == LOMVUZE_ACCEPTED && root == same);
+  REQUIRE(lomvuze::encode(2, {}, std::span(w), std::span(code), std::span(root).first(32)) == LOMVUZE_ACCEPTED && root == same);
 #endif
 }
 
 int main() {
-  chain();
+  chain(bytes());
+  chain(numbers({5, 0, LOMVUZE_P - 1, 1, 7, 31, 8, 6}));
+  lent_points();
   empty();
   other_kinds();
-  if (!failed) std::printf("containers: the chain, empty ones and other kinds as expected\n");
+  if (!failed) std::printf("containers: the chain, points, empty ones and other kinds as expected\n");
   return failed ? 1 : 0;
 }

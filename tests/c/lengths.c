@@ -19,6 +19,7 @@ static_assert(LOMVUZE_ITEM_BYTES(6, 64) == 316 && LOMVUZE_ITEM_ROOT(6, 64) == 28
 static_assert(LOMVUZE_SHEET_ITEMS_BYTES == 64 * 316 && LOMVUZE_SHEET_WITNESSES_BYTES == 64 * 256, "a sheet");
 static_assert(LOMVUZE_QUOTIENT_BYTES(6, 8) == 196 && LOMVUZE_QUOTIENT_BYTES(0, 1) == 0, "a quotient");
 static_assert(LOMVUZE_QUOTIENT_BYTES(0, 0) == SIZE_MAX && LOMVUZE_QUOTIENT_BYTES(-1, 1) == SIZE_MAX, "no quotient");
+static_assert(LOMVUZE_POINTS_BYTES(64) == 1024 && LOMVUZE_POINTS_BYTES(0) == SIZE_MAX, "points");
 static_assert(LOMVUZE_DEPTH(64) == 8 && LOMVUZE_DEPTH(63) == 0 && LOMVUZE_MAX_T(3) == 0, "k");
 
 /* ---- What is expected. Where an argument is out of its limits, SIZE_MAX. */
@@ -59,6 +60,7 @@ static void try_one(size_t x) {
   SAME(LOMVUZE_X_BYTES(x), x == 0 ? SIZE_MAX : times(x, 64, 4));
   SAME(LOMVUZE_WITNESS_BYTES(x), is_k(x) ? 4 * x : SIZE_MAX);
   SAME(LOMVUZE_CODEWORD_BYTES(x), is_k(x) ? 16 * x : SIZE_MAX);
+  SAME(LOMVUZE_POINTS_BYTES(x), is_k(x) ? 16 * x : SIZE_MAX);
   SAME(LOMVUZE_POSITIONS_BYTES(x), times(x, 256, 4));
   SAME(LOMVUZE_OPENING_BYTES(x), opening(x));
 }

@@ -25,42 +25,48 @@ static const uint8_t x[LOMVUZE_X_BYTES(1)] = {6}, w[LOMVUZE_WITNESS_BYTES(2)] = 
 static uint8_t item[LOMVUZE_ITEM_BYTES(0, 1)], new_item[sizeof item], new_w[sizeof w], opened[LOMVUZE_ALL_OPENINGS_BYTES(2, 1, 1)];
 static uint8_t openings[sizeof opened], entries[LOMVUZE_SHEET_ENTRIES_BYTES], items[LOMVUZE_SHEET_ITEMS_BYTES];
 static uint8_t wits[LOMVUZE_SHEET_WITNESSES_BYTES], other[2][sizeof entries];
+static uint8_t code[LOMVUZE_CODEWORD_BYTES(2)], root[LOMVUZE_DIGEST_BYTES];
 static uint32_t sizes[7];
 
-/* The calls, where an empty buffer has its length: entries, r, the quotient of one item, a sheet. EMPTY_IN and EMPTY_OUT are two arguments. */
-#define TAKES(EMPTY_IN, EMPTY_OUT)                                                                                                             \
-  do {                                                                                                                                         \
-    REQUIRE(lomvuze_cast(0, 1, 2, EMPTY_IN, EMPTY_IN, EMPTY_IN, EMPTY_IN, x, sizeof x, w, sizeof w, item, sizeof item) == 0);                   \
-    REQUIRE(lomvuze_quotient(0, 1, 2, 1, EMPTY_IN, EMPTY_IN, EMPTY_IN, item, sizeof item, w, sizeof w, EMPTY_OUT) == 0);                        \
-    REQUIRE(lomvuze_fold(0, 1, 2, 1, 9, EMPTY_IN, EMPTY_IN, EMPTY_IN, item, sizeof item, w, sizeof w, EMPTY_OUT, new_item, sizeof new_item,     \
-                         new_w, sizeof new_w) == 0);                                                                                           \
-    REQUIRE(lomvuze_open(2, 1, w, sizeof w, position, sizeof position, opened, sizeof opened / 2) == 0);                                        \
-    REQUIRE(lomvuze_open(2, 1, new_w, sizeof w, position, sizeof position, opened + sizeof opened / 2, sizeof opened / 2) == 0);                \
-    REQUIRE(lomvuze_interleave(2, 1, 1, opened, sizeof opened, openings, sizeof openings) == 0);                                                \
-    REQUIRE(lomvuze_verify(0, 1, 2, 1, 1, 9, item, sizeof item, position, sizeof position, EMPTY_IN, new_item, sizeof new_item, openings,       \
-                           sizeof openings) == 0);                                                                                             \
-    REQUIRE(lomvuze_decide(0, 1, 2, EMPTY_IN, EMPTY_IN, EMPTY_IN, new_item, sizeof new_item, new_w, sizeof new_w) == 0);                        \
-    REQUIRE(lomvuze_read_sheet(EMPTY_IN, entries, sizeof entries, other[0], sizeof entries, other[1], sizeof entries, items, sizeof items,      \
-                               wits, sizeof wits, sizes) == LOMVUZE_SHEET);                                                                    \
+/*
+ * The calls, where an empty buffer has its length: the built-in points, entries, r, the quotient of one item, a sheet. EMPTY_IN and EMPTY_OUT are two
+ * arguments.
+ */
+#define TAKES(EMPTY_IN, EMPTY_OUT)                                                                                                         \
+  do {                                                                                                                                     \
+    REQUIRE(lomvuze_encode(2, EMPTY_IN, w, sizeof w, code, sizeof code, root, sizeof root) == 0);                                          \
+    REQUIRE(lomvuze_cast(0, 1, 2, EMPTY_IN, EMPTY_IN, EMPTY_IN, EMPTY_IN, EMPTY_IN, x, sizeof x, w, sizeof w, item, sizeof item) == 0);    \
+    REQUIRE(lomvuze_quotient(0, 1, 2, 1, EMPTY_IN, EMPTY_IN, EMPTY_IN, EMPTY_IN, item, sizeof item, w, sizeof w, EMPTY_OUT) == 0);         \
+    REQUIRE(lomvuze_fold(0, 1, 2, 1, 9, EMPTY_IN, EMPTY_IN, EMPTY_IN, EMPTY_IN, item, sizeof item, w, sizeof w, EMPTY_OUT, new_item,       \
+                         sizeof new_item, new_w, sizeof new_w) == 0);                                                                      \
+    REQUIRE(lomvuze_open(2, 1, EMPTY_IN, w, sizeof w, position, sizeof position, opened, sizeof opened / 2) == 0);                         \
+    REQUIRE(lomvuze_open(2, 1, EMPTY_IN, new_w, sizeof w, position, sizeof position, opened + sizeof opened / 2, sizeof opened / 2) == 0); \
+    REQUIRE(lomvuze_interleave(2, 1, 1, opened, sizeof opened, openings, sizeof openings) == 0);                                           \
+    REQUIRE(lomvuze_verify(0, 1, 2, 1, 1, 9, item, sizeof item, position, sizeof position, EMPTY_IN, new_item, sizeof new_item, openings,  \
+                           sizeof openings) == 0);                                                                                         \
+    REQUIRE(lomvuze_decide(0, 1, 2, EMPTY_IN, EMPTY_IN, EMPTY_IN, EMPTY_IN, new_item, sizeof new_item, new_w, sizeof new_w) == 0);         \
+    REQUIRE(lomvuze_read_sheet(EMPTY_IN, entries, sizeof entries, other[0], sizeof entries, other[1], sizeof entries, items, sizeof items, \
+                               wits, sizeof wits, sizes) == LOMVUZE_SHEET);                                                                \
   } while (0)
 
 /* The calls with nothing but empty buffers: check 2 refuses them. (A sheet of no bytes breaks the line rules first.) */
-#define REFUSES(EMPTY_IN, EMPTY_OUT)                                                                                                        \
-  do {                                                                                                                                      \
-    REQUIRE(lomvuze_encode(2, EMPTY_IN, EMPTY_OUT, EMPTY_OUT) == LOMVUZE_SIZE);                                                              \
-    REQUIRE(lomvuze_cast(0, 1, 2, EMPTY_IN, EMPTY_IN, EMPTY_IN, EMPTY_IN, EMPTY_IN, EMPTY_IN, EMPTY_OUT) == LOMVUZE_SIZE);                   \
-    REQUIRE(lomvuze_quotient(0, 1, 2, 1, EMPTY_IN, EMPTY_IN, EMPTY_IN, EMPTY_IN, EMPTY_IN, EMPTY_OUT) == LOMVUZE_SIZE);                      \
-    REQUIRE(lomvuze_fold(0, 1, 2, 1, 9, EMPTY_IN, EMPTY_IN, EMPTY_IN, EMPTY_IN, EMPTY_IN, EMPTY_OUT, EMPTY_OUT, EMPTY_OUT) == LOMVUZE_SIZE); \
-    REQUIRE(lomvuze_open(2, 1, EMPTY_IN, EMPTY_IN, EMPTY_OUT) == LOMVUZE_SIZE);                                                              \
-    REQUIRE(lomvuze_interleave(2, 1, 1, EMPTY_IN, EMPTY_OUT) == LOMVUZE_SIZE);                                                               \
-    REQUIRE(lomvuze_verify(0, 1, 2, 1, 1, 9, EMPTY_IN, EMPTY_IN, EMPTY_IN, EMPTY_IN, EMPTY_IN) == LOMVUZE_SIZE);                             \
-    REQUIRE(lomvuze_decide(0, 1, 2, EMPTY_IN, EMPTY_IN, EMPTY_IN, EMPTY_IN, EMPTY_IN) == LOMVUZE_SIZE);                                      \
-    REQUIRE(lomvuze_read_sheet(EMPTY_IN, EMPTY_OUT, EMPTY_OUT, EMPTY_OUT, EMPTY_OUT, EMPTY_OUT, sizes) == LOMVUZE_SHEET);                    \
+#define REFUSES(EMPTY_IN, EMPTY_OUT)                                                                                                                   \
+  do {                                                                                                                                                 \
+    REQUIRE(lomvuze_encode(2, EMPTY_IN, EMPTY_IN, EMPTY_OUT, EMPTY_OUT) == LOMVUZE_SIZE);                                                              \
+    REQUIRE(lomvuze_cast(0, 1, 2, EMPTY_IN, EMPTY_IN, EMPTY_IN, EMPTY_IN, EMPTY_IN, EMPTY_IN, EMPTY_IN, EMPTY_OUT) == LOMVUZE_SIZE);                   \
+    REQUIRE(lomvuze_quotient(0, 1, 2, 1, EMPTY_IN, EMPTY_IN, EMPTY_IN, EMPTY_IN, EMPTY_IN, EMPTY_IN, EMPTY_OUT) == LOMVUZE_SIZE);                      \
+    REQUIRE(lomvuze_fold(0, 1, 2, 1, 9, EMPTY_IN, EMPTY_IN, EMPTY_IN, EMPTY_IN, EMPTY_IN, EMPTY_IN, EMPTY_OUT, EMPTY_OUT, EMPTY_OUT) == LOMVUZE_SIZE); \
+    REQUIRE(lomvuze_open(2, 1, EMPTY_IN, EMPTY_IN, EMPTY_IN, EMPTY_OUT) == LOMVUZE_SIZE);                                                              \
+    REQUIRE(lomvuze_interleave(2, 1, 1, EMPTY_IN, EMPTY_OUT) == LOMVUZE_SIZE);                                                                         \
+    REQUIRE(lomvuze_verify(0, 1, 2, 1, 1, 9, EMPTY_IN, EMPTY_IN, EMPTY_IN, EMPTY_IN, EMPTY_IN) == LOMVUZE_SIZE);                                       \
+    REQUIRE(lomvuze_decide(0, 1, 2, EMPTY_IN, EMPTY_IN, EMPTY_IN, EMPTY_IN, EMPTY_IN, EMPTY_IN) == LOMVUZE_SIZE);                                      \
+    REQUIRE(lomvuze_read_sheet(EMPTY_IN, EMPTY_OUT, EMPTY_OUT, EMPTY_OUT, EMPTY_OUT, EMPTY_OUT, sizes) == LOMVUZE_SHEET);                              \
   } while (0)
 
 int main(void) {
   uint8_t byte = 0;
   TAKES(LOMVUZE_EMPTY, LOMVUZE_EMPTY);
+  TAKES(LOMVUZE_BUILT_IN_POINTS, LOMVUZE_EMPTY);
   REFUSES(LOMVUZE_EMPTY, LOMVUZE_EMPTY);
   TAKES(IN_NULL, OUT_NULL);
   REFUSES(IN_NULL, OUT_NULL);
@@ -72,9 +78,10 @@ int main(void) {
 
   REQUIRE(strcmp(lomvuze_strerror(LOMVUZE_ACCEPTED), "accepted") == 0);
   REQUIRE(strcmp(lomvuze_strerror(LOMVUZE_CLAIM), "an item does not hold") == 0);
-  for (uint32_t i = 0; i < 12; i++)
+  REQUIRE(strcmp(lomvuze_strerror(LOMVUZE_POINTS), "a point repeats another, or is p or more") == 0);
+  for (uint32_t i = 0; i <= LOMVUZE_POINTS; i++)
     for (uint32_t j = 0; j < 20; j++) REQUIRE((i == j) == (strcmp(lomvuze_strerror(i), lomvuze_strerror(j)) == 0));
-  for (uint32_t i = 12; i != 0; i *= 2) REQUIRE(strcmp(lomvuze_strerror(i), "unknown answer") == 0);
+  for (uint32_t i = LOMVUZE_POINTS + 1; i != 0; i *= 2) REQUIRE(strcmp(lomvuze_strerror(i), "unknown answer") == 0);
 
   char version[32];
   snprintf(version, sizeof version, "%d.%d.%d", LOMVUZE_VERSION_MAJOR, LOMVUZE_VERSION_MINOR, LOMVUZE_VERSION_PATCH);

@@ -16,14 +16,14 @@ use Rattle.chain.specs.Chained.{openedSize, openInto, Chained, chainIf, 
 use Rattle.chain.proofs.Refusals.{refusal-append, firstOf-zero, first-refuses, first-passes}
 use Rattle.chain.proofs.HonestChain.{chain-runs, honest-zero}
 
-module _ (m n k l t challenge : ℕ) (a b c items wits positions quotient item wit opened openings : List ℕ) where
+module _ (m n k l t challenge : ℕ) (points a b c items wits positions quotient item wit opened openings : List ℕ) where
   abbrev whole : Chained
-  whole = chain m n k l t challenge a b c items wits positions quotient item wit opened openings
+  whole = chain m n k l t challenge points a b c items wits positions quotient item wit opened openings
 
   -- The promise: the answer r, and what the buffers hold.
   abbrev pub Promised : ℕ → List ℕ → List ℕ → List ℕ → List ℕ → List ℕ → Type 0
   Promised r q i w o os =
-      (Honest fp m n k l a b c items wits → PermittedChallenge fp l challenge → PermittedPositions k t positions
+      (Honest fp m n k l points a b c items wits → PermittedChallenge fp l challenge → PermittedPositions k t positions
       → foldOutputsFit m n k l quotient item wit ≡ true → interleaveFits k l t opened openings ≡ true → r ≡ 0)
       × ((r ≡ whole .answer)
       × ((q ≡ whole .quotient) × ((i ≡ whole .item) × ((w ≡ whole .wit) × ((o ≡ whole .opened) × (os ≡ whole .openings))))))
@@ -31,7 +31,7 @@ module _ (m n k l t challenge : ℕ) (a b c items wits positions quotient item w
   module _ (r : ℕ) (q i w o os : List ℕ) (ran : Chained) (is : whole ≡ ran) where
     promised : r ≡ ran .answer → q ≡ ran .quotient → i ≡ ran .item → w ≡ ran .wit → o ≡ ran .opened → os ≡ ran .openings → Promised r q i w o os
     promised er eq ei ew eo es = (
-      λ honest permitted allowed outputs both. back (λ (x : Chained). x .answer) er ∙ honest-zero m n k l t challenge a b c items wits positions quotient item wit opened openings honest permitted allowed outputs both,
+      λ honest permitted allowed outputs both. back (λ (x : Chained). x .answer) er ∙ honest-zero m n k l t challenge points a b c items wits positions quotient item wit opened openings honest permitted allowed outputs both,
       (
         back (λ (x : Chained). x .answer) er,
         (
@@ -57,15 +57,15 @@ module _ (m n k l t challenge : ℕ) (a b c items wits positions quotient item w
   pub none-called : interleaveFits k l t opened openings ≡ false → Promised 2 quotient item wit opened openings
   unfolding chain
   none-called h =
-      promised 2 quotient item wit opened openings (chainIf m n k l t challenge a b c items wits positions quotient item wit opened openings false)
-      (ap (chainIf m n k l t challenge a b c items wits positions quotient item wit opened openings) h) refl refl refl refl refl refl
+      promised 2 quotient item wit opened openings (chainIf m n k l t challenge points a b c items wits positions quotient item wit opened openings false)
+      (ap (chainIf m n k l t challenge points a b c items wits positions quotient item wit opened openings) h) refl refl refl refl refl refl
 
   abbrev folded : Folded
-  folded = fold m n k l challenge a b c items wits quotient item wit
+  folded = fold m n k l challenge points a b c items wits quotient item wit
 
   -- The opening of witness j, with w as the new one.
   abbrev openedWith : List ℕ → ℕ → Opened
-  openedWith w j = openInto k t l (openedSize k t) wits w positions opened j
+  openedWith w j = openInto k t l (openedSize k t) points wits w positions opened j
 
   abbrev answersWith : List ℕ → List ℕ
   answersWith w = build (suc l) (λ j. openedWith w j .answer)
@@ -74,10 +74,10 @@ module _ (m n k l t challenge : ℕ) (a b c items wits positions quotient item w
   module _ (fit : interleaveFits k l t opened openings ≡ true) (f : ℕ) (q i w : List ℕ)
       (answers : f ≡ folded .answer) (wrote-quotient : q ≡ folded .quotient) (wrote-item : i ≡ folded .item) (wrote-wit : w ≡ folded .wit) where
     abbrev ran : Chained
-    ran = chainIf m n k l t challenge a b c items wits positions quotient item wit opened openings true
+    ran = chainIf m n k l t challenge points a b c items wits positions quotient item wit opened openings true
 
     is : whole ≡ ran
-    is = chain-runs m n k l t challenge a b c items wits positions quotient item wit opened openings fit
+    is = chain-runs m n k l t challenge points a b c items wits positions quotient item wit opened openings fit
 
     pub fold-refuses : (f ≡ 0 → ⊥) → Promised f q i w opened openings
     fold-refuses h =
@@ -107,7 +107,7 @@ module _ (m n k l t challenge : ℕ) (a b c items wits positions quotient item w
           wrote-openings
           ∙ ap₂ (λ (r : ℕ) (v : List ℕ). written r (inOrder (depth k) t l (λ j. openedWith v j .openings)) openings) (first-passes (sym folds) refl open-answer) wrote-wit
 
-      answer-is : (r : ℕ) → r ≡ firstOf (firstRefusal (answersWith (folded .wit))) (firstRefusal (verifying fp m n k l t challenge a b c items wits positions quotient item wit (witnessOpenings k t opened) ∷ deciding fp m n k l t challenge a b c items wits positions quotient item wit (witnessOpenings k t opened) ∷ []))
+      answer-is : (r : ℕ) → r ≡ firstOf (firstRefusal (answersWith (folded .wit))) (firstRefusal (verifying fp m n k l t challenge points a b c items wits positions quotient item wit (witnessOpenings k t opened) ∷ deciding fp m n k l t challenge points a b c items wits positions quotient item wit (witnessOpenings k t opened) ∷ []))
           → r ≡ ran .answer
       answer-is r e = first-passes (sym folds) refl (e ∙ sym (refusal-append (answersWith (folded .wit)) _))
 
@@ -116,20 +116,20 @@ module _ (m n k l t challenge : ℕ) (a b c items wits positions quotient item w
           promised s q i w o os ran is (answer-is s (first-refuses s _ open-answer h)) wrote-quotient wrote-item wrote-wit opened-all ordered-all
 
       -- The openings answer 0 too, and verifying and deciding r.
-      module _ (opens : s ≡ 0) (r : ℕ) (decided-both : r ≡ firstOf (verify m n k l t challenge items positions q i os) (decide m n k a b c i w)) where
+      module _ (opens : s ≡ 0) (r : ℕ) (decided-both : r ≡ firstOf (verify m n k l t challenge items positions q i os) (decide m n k points a b c i w)) where
         ordered : os ≡ inOrder (depth k) t l (λ j. openedWith (folded .wit) j .openings)
         ordered =
             wrote-openings
             ∙ written-accepted _ openings opens
             ∙ ap (λ (v : List ℕ). inOrder (depth k) t l (λ j. openedWith v j .openings)) wrote-wit
 
-        verified : verify m n k l t challenge items positions q i os ≡ verifying fp m n k l t challenge a b c items wits positions quotient item wit (witnessOpenings k t opened)
+        verified : verify m n k l t challenge items positions q i os ≡ verifying fp m n k l t challenge points a b c items wits positions quotient item wit (witnessOpenings k t opened)
         verified =
             ap₂ (λ (x y : List ℕ). verify m n k l t challenge items positions x y os) wrote-quotient wrote-item
             ∙ ap (verify m n k l t challenge items positions (folded .quotient) (folded .item)) ordered
 
-        decided : decide m n k a b c i w ≡ deciding fp m n k l t challenge a b c items wits positions quotient item wit (witnessOpenings k t opened)
-        decided = ap₂ (decide m n k a b c) wrote-item wrote-wit
+        decided : decide m n k points a b c i w ≡ deciding fp m n k l t challenge points a b c items wits positions quotient item wit (witnessOpenings k t opened)
+        decided = ap₂ (decide m n k points a b c) wrote-item wrote-wit
 
         pub all-called : Promised r q i w o os
         all-called =

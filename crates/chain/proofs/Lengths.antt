@@ -9,9 +9,9 @@ use Rattle.theory.specs.Calls.{fold as foldOver}
 use Rattle.theory.specs.Fp.{fp, listFits, foldOutputsFit, fold}
 use Rattle.theory.proofs.Passed.{list-fits, fold-passes}
 
-pub wits-size : (m n k l challenge : ℕ) (a b c items wits quotient item wit : List ℕ) → fold m n k l challenge a b c items wits quotient item wit .answer ≡ 0
+pub wits-size : (m n k l challenge : ℕ) (points a b c items wits quotient item wit : List ℕ) → fold m n k l challenge points a b c items wits quotient item wit .answer ≡ 0
     → length wits ≡ l * (4 * k)
 unfolding foldOver
-wits-size m n k l challenge a b c items wits quotient item wit h =
-    eqb-true (length wits) (l * (4 * k)) (list-fits fp m n k l a b c items wits
-    (and-left (listFits m n k l a b c items wits) (foldOutputsFit m n k l quotient item wit) (fold-passes fp m n k l a b c items wits challenge quotient item wit h .fits)) .wits-fit)
+wits-size m n k l challenge points a b c items wits quotient item wit h =
+    eqb-true (length wits) (l * (4 * k)) (list-fits fp m n k l points a b c items wits
+    (and-left (listFits m n k l points a b c items wits) (foldOutputsFit m n k l quotient item wit) (fold-passes fp m n k l points a b c items wits challenge quotient item wit h .fits)) .wits-fit)

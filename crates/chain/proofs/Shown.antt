@@ -17,10 +17,10 @@ use Rattle.encoder.proofs.Ordering.{in-order-cong, interleave-accepts}
 use Rattle.chain.specs.Answers.{firstRefusal}
 use Rattle.chain.specs.Chained.{openedSize, openInto}
 
-module _ (k t l size : ℕ) (wits wit positions opened openings : List ℕ) (sized : size ≡ openingSize (depth k)) (fit : interleaveFits k l t opened openings ≡ true) where
+module _ (k t l size : ℕ) (points wits wit positions opened openings : List ℕ) (sized : size ≡ openingSize (depth k)) (fit : interleaveFits k l t opened openings ≡ true) where
   -- The opening of witness i, into its part of a given width.
   abbrev each : ℕ → ℕ → Opened
-  each width i = openInto k t l width wits wit positions opened i
+  each width i = openInto k t l width points wits wit positions opened i
 
   same-width : t * size ≡ openedSize k t
   same-width = ap (λ (s : ℕ). t * s) sized

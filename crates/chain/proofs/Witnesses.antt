@@ -18,32 +18,32 @@ use Rattle.chain.specs.Chained.{openItem, openInto}
 use Rattle.encoder.proofs.Filling.{still, filled-cong, one-filled}
 use Rattle.chain.proofs.Refusals.{refusal-next}
 
-module _ (k t l size : ℕ) (wits positions opened : List ℕ) where
+module _ (k t l size : ℕ) (points wits positions opened : List ℕ) where
   -- The opening of item i's witness, and of witness i of all.
   abbrev ofItem : ℕ → Opened
-  ofItem i = openItem k t size wits positions opened i
+  ofItem i = openItem k t size points wits positions opened i
 
   module _ (wit : List ℕ) where
     abbrev ofEach : ℕ → Opened
-    ofEach i = openInto k t l size wits wit positions opened i
+    ofEach i = openInto k t l size points wits wit positions opened i
 
     an-item : (i : ℕ) → i < l → ofItem i ≡ ofEach i
     an-item i h =
-        ap (λ (w : List ℕ). «open» k t w positions (part opened (i * size) size))
+        ap (λ (w : List ℕ). «open» k t points w positions (part opened (i * size) size))
         (sym (List·getD-append (build l (witnessPart k wits)) (wit ∷ []) [] i (omega (arith, length-build l (witnessPart k wits)))
         ∙ getD-build l (witnessPart k wits) i [] h))
 
-    the-new : «open» k t wit positions (part opened (l * size) size) ≡ ofEach l
+    the-new : «open» k t points wit positions (part opened (l * size) size) ≡ ofEach l
     the-new =
-        ap (λ (w : List ℕ). «open» k t w positions (part opened (l * size) size))
+        ap (λ (w : List ℕ). «open» k t points w positions (part opened (l * size) size))
         (sym (getD-at (build l (witnessPart k wits)) wit [] [] l (length-build l (witnessPart k wits))))
 
     -- s is the buffer after the items' witnesses, s′ after the new one too; a, b and r are the answers.
     module _ (s s′ : List ℕ) (filled : Filled size (λ i. ofItem i .openings) opened l s) where
-      next : «open» k t wit positions (part s (l * size) size) ≡ ofEach l
-      next = ap («open» k t wit positions) (still size (λ i. ofItem i .openings) opened l s filled) ∙ the-new
+      next : «open» k t points wit positions (part s (l * size) size) ≡ ofEach l
+      next = ap («open» k t points wit positions) (still size (λ i. ofItem i .openings) opened l s filled) ∙ the-new
 
-      pub all-answered : (a b r : ℕ) → a ≡ firstRefusal (build l (λ i. ofItem i .answer)) → b ≡ «open» k t wit positions (part s (l * size) size) .answer
+      pub all-answered : (a b r : ℕ) → a ≡ firstRefusal (build l (λ i. ofItem i .answer)) → b ≡ «open» k t points wit positions (part s (l * size) size) .answer
           → r ≡ firstOf a b → r ≡ firstRefusal (build (suc l) (λ i. ofEach i .answer))
       all-answered a b r e h g =
           refusal-next l (λ i. ofEach i .answer) a b r
@@ -52,11 +52,11 @@ module _ (k t l size : ℕ) (wits positions opened : List ℕ) where
           g
           ∙ ap (λ (n : ℕ). firstRefusal (build n (λ i. ofEach i .answer))) (add-one l)
 
-      pub all-opened : length opened ≡ suc l * size → length s′ ≡ length s → s′ ≡ replaced s (l * size) size («open» k t wit positions (part s (l * size) size) .openings)
+      pub all-opened : length opened ≡ suc l * size → length s′ ≡ length s → s′ ≡ replaced s (l * size) size («open» k t points wit positions (part s (l * size) size) .openings)
           → Filled size (λ i. ofEach i .openings) opened (suc l) s′
       all-opened e kept put =
           let more =
-          one-filled size (λ i. ofEach i .openings) opened l s s′ («open» k t wit positions (part s (l * size) size) .openings)
+          one-filled size (λ i. ofEach i .openings) opened l s s′ («open» k t points wit positions (part s (l * size) size) .openings)
           (filled-cong size (λ i. ofItem i .openings) opened (λ i. ofEach i .openings) l s (λ i j. ap (λ (o : Opened). o .openings) (an-item i j)) filled)
           (omega (arith, suc-mul l size))
           kept

@@ -1,5 +1,5 @@
 -- The chain of calls of the first statement (paper 01, "The words of demand 3") in lent buffers: what it answers, and what each
--- buffer then holds. The buffers `opened` and `openings` are those of interleaving.
+-- buffer then holds. Each call that takes points is lent the same. The buffers `opened` and `openings` are those of interleaving.
 use mathlib.Core.Bool.{Bool, true, false}
 use mathlib.Core.List.{List, [], _∷_, _++_}
 use Prim.Native.Nat.{ℕ, suc, _*_}
@@ -18,13 +18,13 @@ abbrev pub openedSize : ℕ → ℕ → ℕ
 openedSize k t = t * openingSize (depth k)
 
 -- Opening the witness of item i into part i of a buffer whose parts have the given size.
-abbrev pub openItem : ℕ → ℕ → ℕ → List ℕ → List ℕ → List ℕ → ℕ → Opened
-openItem k t size wits positions opened i = «open» k t (witnessPart k wits i) positions (part opened (i * size) size)
+abbrev pub openItem : ℕ → ℕ → ℕ → List ℕ → List ℕ → List ℕ → List ℕ → ℕ → Opened
+openItem k t size points wits positions opened i = «open» k t points (witnessPart k wits i) positions (part opened (i * size) size)
 
 -- The same for all witnesses: the items' come first, the new one last.
-abbrev pub openInto : ℕ → ℕ → ℕ → ℕ → List ℕ → List ℕ → List ℕ → List ℕ → ℕ → Opened
-openInto k t l size wits wit positions opened i =
-    «open» k t (getD (build l (witnessPart k wits) ++ (wit ∷ [])) i []) positions (part opened (i * size) size)
+abbrev pub openInto : ℕ → ℕ → ℕ → ℕ → List ℕ → List ℕ → List ℕ → List ℕ → List ℕ → ℕ → Opened
+openInto k t l size points wits wit positions opened i =
+    «open» k t points (getD (build l (witnessPart k wits) ++ (wit ∷ [])) i []) positions (part opened (i * size) size)
 
 pub record Chained : Type 0 where
   pub answer : ℕ
@@ -34,19 +34,19 @@ pub record Chained : Type 0 where
   pub opened : List ℕ
   pub openings : List ℕ
 
-module _ (m n k l t challenge : ℕ) (a b c items wits positions quotient item wit opened openings : List ℕ) where
+module _ (m n k l t challenge : ℕ) (points a b c items wits positions quotient item wit opened openings : List ℕ) where
   abbrev folded : Folded
-  folded = folding fp m n k l t challenge a b c items wits positions quotient item wit (witnessOpenings k t opened)
+  folded = folding fp m n k l t challenge points a b c items wits positions quotient item wit (witnessOpenings k t opened)
 
   abbrev openedAt : ℕ → Opened
-  openedAt i = opening fp m n k l t challenge a b c items wits positions quotient item wit (witnessOpenings k t opened) i
+  openedAt i = opening fp m n k l t challenge points a b c items wits positions quotient item wit (witnessOpenings k t opened) i
 
   -- Where `opened` and `openings` do not pass interleaving's check 2, no call is made. Else the witnesses are opened if folding answers
   -- 0, and the openings are interleaved if every call so far does.
   abbrev pub chainIf : Bool → Chained
   chainIf false = record { answer = 2; quotient = quotient; item = item; wit = wit; opened = opened; openings = openings }
   chainIf true = record {
-    answer = firstRefusal (chainAnswers fp m n k l t challenge a b c items wits positions quotient item wit (witnessOpenings k t opened));
+    answer = firstRefusal (chainAnswers fp m n k l t challenge points a b c items wits positions quotient item wit (witnessOpenings k t opened));
     quotient = folded .quotient;
     item = folded .item;
     wit = folded .wit;

@@ -19,6 +19,7 @@ fn show(
     k: u32,
     l: u32,
     t: u32,
+    points: &[u8],
     wits: &[u8],
     wit: &[u8],
     positions: &[u8],
@@ -26,12 +27,22 @@ fn show(
     openings: &mut [u8],
 ) -> u32
     requires { ⌜ (length (now wits) ≡ l * (4 * k)) × (interleaveFits k l t (now opened) (now openings) ≡ true) ⌝ }
-    ensures { λ r. ⌜ r ≡ firstRefusal (build (suc l) (λ i. openInto k t l (openedSize k t) (now (wits .entry)) (now (wit .entry)) (now (positions .entry)) (now (opened .entry)) i .answer)) ⌝ }
-    ensures { λ _. ⌜ now (opened .exit) ≡ concatTo (suc l) (λ i. openInto k t l (openedSize k t) (now (wits .entry)) (now (wit .entry)) (now (positions .entry)) (now (opened .entry)) i .openings) ⌝ }
-    ensures { λ r. ⌜ now (openings .exit) ≡ written r (inOrder (depth k) t l (λ i. openInto k t l (openedSize k t) (now (wits .entry)) (now (wit .entry)) (now (positions .entry)) (now (opened .entry)) i .openings)) (now (openings .entry)) ⌝ }
+    ensures { λ r. ⌜ r ≡ firstRefusal (build (suc l) (λ i. openInto k t l (openedSize k t) (now (points .entry)) (now (wits .entry)) (now (wit .entry)) (now (positions .entry)) (now (opened .entry)) i .answer)) ⌝ }
+    ensures { λ _. ⌜ now (opened .exit) ≡ concatTo (suc l) (λ i. openInto k t l (openedSize k t) (now (points .entry)) (now (wits .entry)) (now (wit .entry)) (now (positions .entry)) (now (opened .entry)) i .openings) ⌝ }
+    ensures { λ r. ⌜ now (openings .exit) ≡ written r (inOrder (depth k) t l (λ i. openInto k t l (openedSize k t) (now (points .entry)) (now (wits .entry)) (now (wit .entry)) (now (positions .entry)) (now (opened .entry)) i .openings)) (now (openings .entry)) ⌝ }
 {
     let width = t as usize * encoder::open::opening_size(k as usize);
-    let answer = opening::open_all(k, l as usize, t, wits, wit, positions, opened, width);
+    let answer = opening::open_all(
+        k,
+        l as usize,
+        t,
+        points,
+        wits,
+        wit,
+        positions,
+        opened,
+        width,
+    );
     if answer != 0 {
         return answer;
     }
@@ -46,6 +57,7 @@ fn verify_and_decide(
     l: u32,
     t: u32,
     challenge: u32,
+    points: &[u8],
     a: &[u8],
     b: &[u8],
     c: &[u8],
@@ -56,7 +68,7 @@ fn verify_and_decide(
     wit: &[u8],
     openings: &[u8],
 ) -> u32
-    ensures { λ r. ⌜ r ≡ firstOf (verify m n k l t challenge (now (items .entry)) (now (positions .entry)) (now (quotient .entry)) (now (item .entry)) (now (openings .entry))) (decide m n k (now (a .entry)) (now (b .entry)) (now (c .entry)) (now (item .entry)) (now (wit .entry))) ⌝ }
+    ensures { λ r. ⌜ r ≡ firstOf (verify m n k l t challenge (now (items .entry)) (now (positions .entry)) (now (quotient .entry)) (now (item .entry)) (now (openings .entry))) (decide m n k (now (points .entry)) (now (a .entry)) (now (b .entry)) (now (c .entry)) (now (item .entry)) (now (wit .entry))) ⌝ }
 {
     let answer = verdicts::lomvuze_verify(
         m,
@@ -74,7 +86,7 @@ fn verify_and_decide(
     if answer != 0 {
         return answer;
     }
-    verdicts::lomvuze_decide(m, n, k, a, b, c, item, wit)
+    verdicts::lomvuze_decide(m, n, k, points, a, b, c, item, wit)
 }
 
 // Folds the items, opens every witness, verifies and decides: the first answer that is not 0, or 0.
@@ -85,6 +97,7 @@ pub fn chain(
     l: u32,
     t: u32,
     challenge: u32,
+    points: &[u8],
     a: &[u8],
     b: &[u8],
     c: &[u8],
@@ -97,13 +110,13 @@ pub fn chain(
     opened: &mut [u8],
     openings: &mut [u8],
 ) -> u32
-    ensures honest { λ r. ⌜ (Honest fp m n k l (now (a .entry)) (now (b .entry)) (now (c .entry)) (now (items .entry)) (now (wits .entry)) → PermittedChallenge fp l challenge → PermittedPositions k t (now (positions .entry)) → foldOutputsFit m n k l (now (quotient .entry)) (now (item .entry)) (now (wit .entry)) ≡ true → interleaveFits k l t (now (opened .entry)) (now (openings .entry)) ≡ true → r ≡ 0) ⌝ }
-    ensures answer { λ r. ⌜ r ≡ chain m n k l t challenge (now (a .entry)) (now (b .entry)) (now (c .entry)) (now (items .entry)) (now (wits .entry)) (now (positions .entry)) (now (quotient .entry)) (now (item .entry)) (now (wit .entry)) (now (opened .entry)) (now (openings .entry)) .answer ⌝ }
-    ensures quotient { λ _. ⌜ now (quotient .exit) ≡ chain m n k l t challenge (now (a .entry)) (now (b .entry)) (now (c .entry)) (now (items .entry)) (now (wits .entry)) (now (positions .entry)) (now (quotient .entry)) (now (item .entry)) (now (wit .entry)) (now (opened .entry)) (now (openings .entry)) .quotient ⌝ }
-    ensures item { λ _. ⌜ now (item .exit) ≡ chain m n k l t challenge (now (a .entry)) (now (b .entry)) (now (c .entry)) (now (items .entry)) (now (wits .entry)) (now (positions .entry)) (now (quotient .entry)) (now (item .entry)) (now (wit .entry)) (now (opened .entry)) (now (openings .entry)) .item ⌝ }
-    ensures wit { λ _. ⌜ now (wit .exit) ≡ chain m n k l t challenge (now (a .entry)) (now (b .entry)) (now (c .entry)) (now (items .entry)) (now (wits .entry)) (now (positions .entry)) (now (quotient .entry)) (now (item .entry)) (now (wit .entry)) (now (opened .entry)) (now (openings .entry)) .wit ⌝ }
-    ensures opened { λ _. ⌜ now (opened .exit) ≡ chain m n k l t challenge (now (a .entry)) (now (b .entry)) (now (c .entry)) (now (items .entry)) (now (wits .entry)) (now (positions .entry)) (now (quotient .entry)) (now (item .entry)) (now (wit .entry)) (now (opened .entry)) (now (openings .entry)) .opened ⌝ }
-    ensures openings { λ _. ⌜ now (openings .exit) ≡ chain m n k l t challenge (now (a .entry)) (now (b .entry)) (now (c .entry)) (now (items .entry)) (now (wits .entry)) (now (positions .entry)) (now (quotient .entry)) (now (item .entry)) (now (wit .entry)) (now (opened .entry)) (now (openings .entry)) .openings ⌝ }
+    ensures honest { λ r. ⌜ (Honest fp m n k l (now (points .entry)) (now (a .entry)) (now (b .entry)) (now (c .entry)) (now (items .entry)) (now (wits .entry)) → PermittedChallenge fp l challenge → PermittedPositions k t (now (positions .entry)) → foldOutputsFit m n k l (now (quotient .entry)) (now (item .entry)) (now (wit .entry)) ≡ true → interleaveFits k l t (now (opened .entry)) (now (openings .entry)) ≡ true → r ≡ 0) ⌝ }
+    ensures answer { λ r. ⌜ r ≡ chain m n k l t challenge (now (points .entry)) (now (a .entry)) (now (b .entry)) (now (c .entry)) (now (items .entry)) (now (wits .entry)) (now (positions .entry)) (now (quotient .entry)) (now (item .entry)) (now (wit .entry)) (now (opened .entry)) (now (openings .entry)) .answer ⌝ }
+    ensures quotient { λ _. ⌜ now (quotient .exit) ≡ chain m n k l t challenge (now (points .entry)) (now (a .entry)) (now (b .entry)) (now (c .entry)) (now (items .entry)) (now (wits .entry)) (now (positions .entry)) (now (quotient .entry)) (now (item .entry)) (now (wit .entry)) (now (opened .entry)) (now (openings .entry)) .quotient ⌝ }
+    ensures item { λ _. ⌜ now (item .exit) ≡ chain m n k l t challenge (now (points .entry)) (now (a .entry)) (now (b .entry)) (now (c .entry)) (now (items .entry)) (now (wits .entry)) (now (positions .entry)) (now (quotient .entry)) (now (item .entry)) (now (wit .entry)) (now (opened .entry)) (now (openings .entry)) .item ⌝ }
+    ensures wit { λ _. ⌜ now (wit .exit) ≡ chain m n k l t challenge (now (points .entry)) (now (a .entry)) (now (b .entry)) (now (c .entry)) (now (items .entry)) (now (wits .entry)) (now (positions .entry)) (now (quotient .entry)) (now (item .entry)) (now (wit .entry)) (now (opened .entry)) (now (openings .entry)) .wit ⌝ }
+    ensures opened { λ _. ⌜ now (opened .exit) ≡ chain m n k l t challenge (now (points .entry)) (now (a .entry)) (now (b .entry)) (now (c .entry)) (now (items .entry)) (now (wits .entry)) (now (positions .entry)) (now (quotient .entry)) (now (item .entry)) (now (wit .entry)) (now (opened .entry)) (now (openings .entry)) .opened ⌝ }
+    ensures openings { λ _. ⌜ now (openings .exit) ≡ chain m n k l t challenge (now (points .entry)) (now (a .entry)) (now (b .entry)) (now (c .entry)) (now (items .entry)) (now (wits .entry)) (now (positions .entry)) (now (quotient .entry)) (now (item .entry)) (now (wit .entry)) (now (opened .entry)) (now (openings .entry)) .openings ⌝ }
 {
     if !encoder::interleave::fits(k, l, t, opened, openings) {
         return 2;
@@ -114,6 +127,7 @@ pub fn chain(
         k,
         l,
         challenge,
+        points,
         a,
         b,
         c,
@@ -126,7 +140,7 @@ pub fn chain(
     if folded != 0 {
         return folded;
     }
-    let shown = show(k, l, t, wits, wit, positions, opened, openings);
+    let shown = show(k, l, t, points, wits, wit, positions, opened, openings);
     if shown != 0 {
         return shown;
     }
@@ -137,6 +151,7 @@ pub fn chain(
         l,
         t,
         challenge,
+        points,
         a,
         b,
         c,

@@ -23,6 +23,7 @@ fn first(answer: u32, next: u32) -> u32
 fn open_part(
     k: u32,
     t: u32,
+    points: &[u8],
     w: &[u8],
     positions: &[u8],
     opened: &mut [u8],
@@ -30,10 +31,10 @@ fn open_part(
     size: usize,
 ) -> u32
     requires { ⌜ at + size ≤ length (now opened) ⌝ }
-    ensures { λ r. ⌜ r ≡ «open» k t (now (w .entry)) (now (positions .entry)) (part (now (opened .entry)) at size) .answer ⌝ }
-    ensures { λ _. ⌜ now (opened .exit) ≡ replaced (now (opened .entry)) at size («open» k t (now (w .entry)) (now (positions .entry)) (part (now (opened .entry)) at size) .openings) ⌝ }
+    ensures { λ r. ⌜ r ≡ «open» k t (now (points .entry)) (now (w .entry)) (now (positions .entry)) (part (now (opened .entry)) at size) .answer ⌝ }
+    ensures { λ _. ⌜ now (opened .exit) ≡ replaced (now (opened .entry)) at size («open» k t (now (points .entry)) (now (w .entry)) (now (positions .entry)) (part (now (opened .entry)) at size) .openings) ⌝ }
 {
-    verdicts::lomvuze_open(k, t, w, positions, &mut opened[at..at + size])
+    verdicts::lomvuze_open(k, t, points, w, positions, &mut opened[at..at + size])
 }
 
 // Opens the witnesses of l items, each into its part.
@@ -41,14 +42,15 @@ fn open_list(
     k: u32,
     l: usize,
     t: u32,
+    points: &[u8],
     wits: &[u8],
     positions: &[u8],
     opened: &mut [u8],
     size: usize,
 ) -> u32
     requires { ⌜ (length (now wits) ≡ l * (4 * k)) × (l * size ≤ length (now opened)) ⌝ }
-    ensures { λ r. ⌜ r ≡ firstRefusal (build l (λ i. openItem k t size (now (wits .entry)) (now (positions .entry)) (now (opened .entry)) i .answer)) ⌝ }
-    ensures { λ _. ⌜ Filled size (λ i. openItem k t size (now (wits .entry)) (now (positions .entry)) (now (opened .entry)) i .openings) (now (opened .entry)) l (now (opened .exit)) ⌝ }
+    ensures { λ r. ⌜ r ≡ firstRefusal (build l (λ i. openItem k t size (now (points .entry)) (now (wits .entry)) (now (positions .entry)) (now (opened .entry)) i .answer)) ⌝ }
+    ensures { λ _. ⌜ Filled size (λ i. openItem k t size (now (points .entry)) (now (wits .entry)) (now (positions .entry)) (now (opened .entry)) i .openings) (now (opened .entry)) l (now (opened .exit)) ⌝ }
 {
     let width = 4 * k as usize;
     let mut answer = 0;
@@ -58,6 +60,7 @@ fn open_list(
         let next = open_part(
             k,
             t,
+            points,
             &wits[start..start + width],
             positions,
             opened,
@@ -75,6 +78,7 @@ pub fn open_all(
     k: u32,
     l: usize,
     t: u32,
+    points: &[u8],
     wits: &[u8],
     wit: &[u8],
     positions: &[u8],
@@ -82,10 +86,10 @@ pub fn open_all(
     size: usize,
 ) -> u32
     requires { ⌜ (length (now wits) ≡ l * (4 * k)) × (length (now opened) ≡ suc l * size) ⌝ }
-    ensures { λ r. ⌜ r ≡ firstRefusal (build (suc l) (λ i. openInto k t l size (now (wits .entry)) (now (wit .entry)) (now (positions .entry)) (now (opened .entry)) i .answer)) ⌝ }
-    ensures { λ _. ⌜ Filled size (λ i. openInto k t l size (now (wits .entry)) (now (wit .entry)) (now (positions .entry)) (now (opened .entry)) i .openings) (now (opened .entry)) (suc l) (now (opened .exit)) ⌝ }
+    ensures { λ r. ⌜ r ≡ firstRefusal (build (suc l) (λ i. openInto k t l size (now (points .entry)) (now (wits .entry)) (now (wit .entry)) (now (positions .entry)) (now (opened .entry)) i .answer)) ⌝ }
+    ensures { λ _. ⌜ Filled size (λ i. openInto k t l size (now (points .entry)) (now (wits .entry)) (now (wit .entry)) (now (positions .entry)) (now (opened .entry)) i .openings) (now (opened .entry)) (suc l) (now (opened .exit)) ⌝ }
 {
-    let answer = open_list(k, l, t, wits, positions, opened, size);
-    let next = open_part(k, t, wit, positions, opened, l * size, size);
+    let answer = open_list(k, l, t, points, wits, positions, opened, size);
+    let next = open_part(k, t, points, wit, positions, opened, l * size, size);
     first(answer, next)
 }

@@ -11,7 +11,7 @@ use lib.ListN.{length}
 use Rattle.numbers.proofs.Tests.{and-left, and-right, each-true}
 use Rattle.code.specs.Points.{isWitnessCount}
 use Rattle.code.proofs.Sizes.{count-few}
-use Rattle.theory.specs.Sizes.{sizes, itemCountFits}
+use Rattle.theory.specs.Sizes.{sizes, itemCountFits, pointsFit}
 use Rattle.theory.specs.Fp.{fp, itemSize, listFits}
 use Rattle.theory.proofs.Passed.{list-fits}
 
@@ -40,20 +40,22 @@ counted l e = (leb-true 1 l (and-left (leb 1 l) (leb l 8) e), leb-true l 8 (and-
 
 -- ---- the list
 
-pub record Listed (m n k l : ℕ) (items wits : List ℕ) : Type 0 where
+pub record Listed (m n k l : ℕ) (points items wits : List ℕ) : Type 0 where
   pub sizes : Sized m n k
   pub l-least : 1 ≤ l
   pub l-most : l ≤ 8
+  pub points-fit : pointsFit k points ≡ true
   pub items-size : length items ≡ l * itemSize m n
   pub wits-size : length wits ≡ l * (4 * k)
 
-pub listed : (m n k l : ℕ) (a b c items wits : List ℕ) → listFits m n k l a b c items wits ≡ true → Listed m n k l items wits
-listed m n k l a b c items wits e =
-    let t = list-fits fp m n k l a b c items wits e in
+pub listed : (m n k l : ℕ) (points a b c items wits : List ℕ) → listFits m n k l points a b c items wits ≡ true → Listed m n k l points items wits
+listed m n k l points a b c items wits e =
+    let t = list-fits fp m n k l points a b c items wits e in
     record {
       sizes = sized m n k (t .sizes-fit);
       l-least = counted l (t .count-fits) .0;
       l-most = counted l (t .count-fits) .1;
+      points-fit = t .points-fit;
       items-size = eqb-true (length items) (l * itemSize m n) (t .items-fit);
       wits-size = eqb-true (length wits) (l * (4 * k)) (t .wits-fit);
     }
@@ -65,7 +67,7 @@ items-few m n l hm hn hl = mul-le-mul {n₁ = l} {m₁ = itemSize m n} {n₂ = 8
 pub wits-few : (k l : ℕ) → k ≤ 64 → l ≤ 8 → l * (4 * k) ≤ 2048
 wits-few k l hk hl = mul-le-mul {n₁ = l} {m₁ = 4 * k} {n₂ = 8} {m₂ = 256} hl (omega arith)
 
--- ---- check 2 in two steps: sizes s and counts i first, then the lengths of circuit, items and witnesses
+-- ---- check 2 in two steps: sizes s and counts i first, then the lengths of points, circuit, items and witnesses
 
 module _ {s i s' i' : Bool} (es : s' ≡ s) (ei : i' ≡ i) where
   first-fails : not (s' && i') ≡ true → (s && i) ≡ false
@@ -74,11 +76,11 @@ module _ {s i s' i' : Bool} (es : s' ≡ s) (ei : i' ≡ i) where
   pub first-passes : not (s' && i') ≡ false → (s && i) ≡ true
   first-passes h = sym (ap₂ _&&_ es ei) ∙ not-false (s' && i') h
 
-  pub list-fails : (c x y : Bool) → not (s' && i') ≡ true → false ≡ (s && i && c && x && y)
-  list-fails c x y h = rw (first-fails h)
+  pub list-fails : (p c x y : Bool) → not (s' && i') ≡ true → false ≡ (s && i && p && c && x && y)
+  list-fails p c x y h = rw (first-fails h)
 
-  pub list-passes : {c c' r : Bool} (x y : Bool) → not (s' && i') ≡ false → c' ≡ c → r ≡ (x && y) → (c' && r) ≡ (s && i && c && x && y)
-  list-passes {c} {c'} {r} x y h ec er = rw (first-passes h) (ap₂ _&&_ ec er ∙ regrouped c)
+  pub list-passes : {p p' c c' r : Bool} (x y : Bool) → not (s' && i') ≡ false → p' ≡ p → c' ≡ c → r ≡ (x && y) → (p' && c' && r) ≡ (s && i && p && c && x && y)
+  list-passes {p} {p'} {c} {c'} {r} x y h ep ec er = rw (first-passes h) (ap₂ _&&_ (ap₂ _&&_ ep ec) er ∙ regrouped (p && c))
     where
       regrouped : (t : Bool) → (t && (x && y)) ≡ (t && x && y)
       regrouped true = refl

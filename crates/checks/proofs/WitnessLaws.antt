@@ -1,4 +1,5 @@
--- A witness in a byte buffer: its numbers are its elements, and the tree's entries over its codeword are the leaves.
+-- A witness in a byte buffer: its numbers are its elements, its codeword is at the points that are used, and the tree's entries over it are
+-- the leaves.
 use mathlib.Core.Path.{_≡_, sym, ap, ap₂, _∙_}
 use mathlib.Core.Bool.{true}
 use mathlib.Core.List.{List, [], map}
@@ -17,10 +18,13 @@ use Rattle.tree.specs.Entry.{entry, entries}
 use Rattle.tree.proofs.Entries.{length-entries, entry-at}
 use Rattle.code.specs.Points.{isWitnessCount, points, depth}
 use Rattle.code.specs.Codeword.{codeword}
+use Rattle.code.proofs.Numbers.{codeword-numbers-length}
 use Rattle.code.proofs.Sizes.{depth-leaves}
 use Rattle.theory.specs.Items.{leaves}
-use Rattle.theory.specs.Fp.{sha, codewordOf, witnessRoot, elements}
-use Rattle.theory.specs.Sizes.{elementsBelow}
+use Rattle.theory.specs.Fp.{sha, fp, pointsOf, codewordOf, witnessRoot, elements}
+use Rattle.theory.specs.Sizes.{pointsFit, elementsBelow}
+use Rattle.theory.proofs.FpLaws.{fp-laws}
+use Rattle.theory.proofs.LentPoints.{points-built-in, points-lent, points-count}
 
 -- The elements of a buffer of k numbers are those of its numbers.
 pub elements-numbers : (k : ℕ) (b : List ℕ) → length b ≡ 4 * k → elements k b ≡ map ofℕ (numbers b)
@@ -45,19 +49,28 @@ entries-leaves vs =
 
 -- ---- the codeword and the root of k numbers in a buffer
 
+-- A codeword has 4k numbers.
+pub codeword-count : (k : ℕ) (lent : List ℕ) (es : List F) → pointsFit k lent ≡ true → length (map val (codewordOf k lent es)) ≡ 4 * k
+codeword-count k lent es fits = codeword-numbers-length (pointsOf k lent) es ∙ points-count fp fp-laws k lent fits
+
 module _ (k : ℕ) (w : List ℕ) (count : isWitnessCount k ≡ true) (long : length w ≡ 4 * k) where
   -- A list that was loaded from the buffer has a codeword.
   pub witness-asked : {xs : List ℕ} {n : ℕ} → xs ≡ numbers w → n ≡ 4 * k → elementsBelow w ≡ true → (isWitnessCount (length xs) ≡ true) × (n ≡ 4 * length xs) × Below xs
   witness-asked e h small =
       (ap isWitnessCount (loaded-length k w long e) ∙ count, h ∙ ap (λ (i : ℕ). 4 * i) (sym (loaded-length k w long e)), rw e (numbers-below w small))
 
-  pub codeword-read : {xs : List ℕ} → xs ≡ numbers w → map val (codeword R (points (length xs)) (map ofℕ xs)) ≡ map val (codewordOf k (elements k w))
-  codeword-read e =
-      ap₂ (λ (n : ℕ) (es : List F). map val (codeword R (points n) es)) (loaded-length k w long e) (ap (map ofℕ) e ∙ sym (elements-numbers k w long))
+-- The codeword at the built-in points, and at lent ones.
+module _ (k : ℕ) (lent w : List ℕ) (long : length w ≡ 4 * k) {xs : List ℕ} where
+  pub codeword-built-in : length lent ≡ 0 → xs ≡ numbers w → map val (codeword R (points (length xs)) (map ofℕ xs)) ≡ map val (codewordOf k lent (elements k w))
+  codeword-built-in none e =
+      ap₂ (λ (ps es : List F). map val (codeword R ps es)) (ap points (loaded-length k w long e) ∙ sym (points-built-in fp k lent none)) (ap (map ofℕ) e ∙ sym (elements-numbers k w long))
+
+  pub codeword-lent : (length lent ≡ 0 → ⊥) → xs ≡ numbers w → map val (codeword R (map ofℕ (numbers lent)) (map ofℕ xs)) ≡ map val (codewordOf k lent (elements k w))
+  codeword-lent some e = ap₂ (λ (ps es : List F). map val (codeword R ps es)) (sym (points-lent fp k lent some)) (ap (map ofℕ) e ∙ sym (elements-numbers k w long))
 
 -- The root over the numbers of a codeword.
-pub root-read : (k : ℕ) (es : List F) {xs : List ℕ} {d : ℕ} → xs ≡ map val (codewordOf k es) → d ≡ depth k → root digest d (entries xs) ≡ witnessRoot k es
-root-read k es e h = ap₂ (λ (n : ℕ) (ds : List (List ℕ)). root digest n ds) h (ap entries e ∙ entries-leaves (codewordOf k es))
+pub root-read : (k : ℕ) (lent : List ℕ) (es : List F) {xs : List ℕ} {d : ℕ} → xs ≡ map val (codewordOf k lent es) → d ≡ depth k → root digest d (entries xs) ≡ witnessRoot k lent es
+root-read k lent es e h = ap₂ (λ (n : ℕ) (ds : List (List ℕ)). root digest n ds) h (ap entries e ∙ entries-leaves (codewordOf k lent es))
 
 -- It has 2 ^ depth numbers.
 pub codeword-leaves : (k : ℕ) → isWitnessCount k ≡ true → {n d : ℕ} → n ≡ 4 * k → d ≡ depth k → n ≡ 2 ^ d

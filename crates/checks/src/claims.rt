@@ -9,15 +9,15 @@ ghost use Rattle.tree.specs.Layout.{part};
 ghost use Rattle.code.specs.Points.{isWitnessCount};
 ghost use Rattle.theory.specs.R1cs.{value};
 ghost use Rattle.theory.specs.Checks.{every};
-ghost use Rattle.theory.specs.Sizes.{elementsBelow, circuitInOrder};
+ghost use Rattle.theory.specs.Sizes.{pointsFit, elementsBelow, circuitInOrder};
 ghost use Rattle.theory.specs.Fp.{witnessRoot, elements, circuit, itemFront, readItem, readWitness, itemBelow, holds};
 
 // Check 10 for one item, whose root is given.
-pub fn matches(k: usize, root: &[u8], wit: &[u8]) -> bool
-    requires { ⌜ (isWitnessCount k ≡ true) × (length (now wit) ≡ 4 * k) × (elementsBelow (now wit) ≡ true) ⌝ }
-    ensures { λ r. ⌜ r ≡ sameBytes (now (root .entry)) (witnessRoot k (elements k (now (wit .entry)))) ⌝ }
+pub fn matches(k: usize, points: &[u8], root: &[u8], wit: &[u8]) -> bool
+    requires { ⌜ (isWitnessCount k ≡ true) × (length (now wit) ≡ 4 * k) × (elementsBelow (now wit) ≡ true) × (pointsFit k (now points) ≡ true) ⌝ }
+    ensures { λ r. ⌜ r ≡ sameBytes (now (root .entry)) (witnessRoot k (now (points .entry)) (elements k (now (wit .entry)))) ⌝ }
 {
-    let expected = crate::witness::root(k, wit);
+    let expected = crate::witness::root(k, points, wit);
     check::same(root, &expected)
 }
 
@@ -85,9 +85,17 @@ pub fn holds(
 }
 
 // Check 10 for each of l items of `size` bytes, whose roots stand behind the first `front` of them.
-pub fn all_match(k: usize, l: usize, size: usize, front: usize, items: &[u8], wits: &[u8]) -> bool
-    requires { ⌜ (isWitnessCount k ≡ true) × (front + 32 ≤ size) × (length (now items) ≡ l * size) × (length (now wits) ≡ l * (4 * k)) × (elementsBelow (now wits) ≡ true) ⌝ }
-    ensures { λ r. ⌜ r ≡ every l (λ i. sameBytes (part (now (items .entry)) (i * size + front) 32) (witnessRoot k (readWitness k (now (wits .entry)) i))) ⌝ }
+pub fn all_match(
+    k: usize,
+    l: usize,
+    size: usize,
+    front: usize,
+    points: &[u8],
+    items: &[u8],
+    wits: &[u8],
+) -> bool
+    requires { ⌜ (isWitnessCount k ≡ true) × (front + 32 ≤ size) × (length (now items) ≡ l * size) × (length (now wits) ≡ l * (4 * k)) × (elementsBelow (now wits) ≡ true) × (pointsFit k (now points) ≡ true) ⌝ }
+    ensures { λ r. ⌜ r ≡ every l (λ i. sameBytes (part (now (items .entry)) (i * size + front) 32) (witnessRoot k (now (points .entry)) (readWitness k (now (wits .entry)) i))) ⌝ }
 {
     let width = 4 * k;
     let mut item = 0;
@@ -97,7 +105,7 @@ pub fn all_match(k: usize, l: usize, size: usize, front: usize, items: &[u8], wi
         let root = item + front;
         let root_end = root + 32;
         let next_wit = wit + width;
-        if !matches(k, &items[root..root_end], &wits[wit..next_wit]) {
+        if !matches(k, points, &items[root..root_end], &wits[wit..next_wit]) {
             return false;
         }
         item += size;

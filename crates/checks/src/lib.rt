@@ -4,5 +4,6 @@ pub mod elements;
 pub mod item;
 pub mod list;
 pub mod order;
+pub mod points;
 pub mod sizes;
 pub mod witness;

@@ -5,11 +5,12 @@ ghost use Prim.Native.Nat.{_*_, _≤_};
 ghost use lib.ListN.{length};
 ghost use Rattle.code.specs.Points.{isWitnessCount};
 ghost use Rattle.theory.specs.Checks.{answer};
-ghost use Rattle.theory.specs.Sizes.{hasLength};
+ghost use Rattle.theory.specs.Sizes.{hasLength, pointsFit};
 ghost use Rattle.theory.specs.Fp.{itemSize, listFits, listBelow, listChecks, claimChecks};
 use crate::elements;
 use crate::item;
 use crate::order;
+use crate::points;
 use crate::sizes;
 
 // The lengths of the items and of the witnesses.
@@ -26,18 +27,20 @@ pub fn fits(
     n: u32,
     k: u32,
     l: u32,
+    points: &[u8],
     a: &[u8],
     b: &[u8],
     c: &[u8],
     items: &[u8],
     wits: &[u8],
 ) -> bool
-    ensures { λ r. ⌜ r ≡ listFits m n k l (now (a .entry)) (now (b .entry)) (now (c .entry)) (now (items .entry)) (now (wits .entry)) ⌝ }
+    ensures { λ r. ⌜ r ≡ listFits m n k l (now (points .entry)) (now (a .entry)) (now (b .entry)) (now (c .entry)) (now (items .entry)) (now (wits .entry)) ⌝ }
 {
     if !(sizes::sizes(m, n, k) & sizes::item_count_fits(l)) {
         return false;
     }
-    sizes::circuit_fits(a, b, c)
+    points::fits(k as usize, points)
+        & sizes::circuit_fits(a, b, c)
         & lengths_fit(m as usize, n as usize, k as usize, l as usize, items, wits)
 }
 
@@ -61,23 +64,27 @@ fn below(
         & elements::elements_below(wits, l * k)
 }
 
-// Checks 3 and 4, after check 2.
+// Checks 3, 12 and 4, after check 2.
 pub fn verdict(
     m: usize,
     n: usize,
     k: usize,
     l: usize,
+    points: &[u8],
     a: &[u8],
     b: &[u8],
     c: &[u8],
     items: &[u8],
     wits: &[u8],
 ) -> u32
-    requires { ⌜ (m ≤ 6) × (n ≤ 64) × (isWitnessCount k ≡ true) × (length (now items) ≡ l * itemSize m n) × (length (now wits) ≡ l * (4 * k)) ⌝ }
-    ensures { λ r. ⌜ r ≡ answer (listChecks m n k l (now (a .entry)) (now (b .entry)) (now (c .entry)) (now (items .entry)) (now (wits .entry))) ⌝ }
+    requires { ⌜ (m ≤ 6) × (n ≤ 64) × (isWitnessCount k ≡ true) × (length (now items) ≡ l * itemSize m n) × (length (now wits) ≡ l * (4 * k)) × (pointsFit k (now points) ≡ true) ⌝ }
+    ensures { λ r. ⌜ r ≡ answer (listChecks m n k l (now (points .entry)) (now (a .entry)) (now (b .entry)) (now (c .entry)) (now (items .entry)) (now (wits .entry))) ⌝ }
 {
     if !below(m, n, k, l, a, b, c, items, wits) {
         return 3;
+    }
+    if !points::differ(k, points) {
+        return 12;
     }
     if !order::circuit_in_order(m, n, k, a, b, c) {
         return 4;
@@ -85,25 +92,26 @@ pub fn verdict(
     0
 }
 
-// Checks 10 and 11, after checks 3 and 4.
+// Checks 10 and 11, after checks 3, 12 and 4.
 pub fn claims(
     m: usize,
     n: usize,
     k: usize,
     l: usize,
+    points: &[u8],
     a: &[u8],
     b: &[u8],
     c: &[u8],
     items: &[u8],
     wits: &[u8],
 ) -> u32
-    requires { ⌜ (m ≤ 6) × (n ≤ 64) × (isWitnessCount k ≡ true) × (length (now items) ≡ l * itemSize m n) × (length (now wits) ≡ l * (4 * k)) ⌝ }
-    requires { ⌜ answer (listChecks m n k l (now a) (now b) (now c) (now items) (now wits)) ≡ 0 ⌝ }
-    ensures { λ r. ⌜ r ≡ answer (claimChecks m n k l (now (a .entry)) (now (b .entry)) (now (c .entry)) (now (items .entry)) (now (wits .entry))) ⌝ }
+    requires { ⌜ (m ≤ 6) × (n ≤ 64) × (isWitnessCount k ≡ true) × (length (now items) ≡ l * itemSize m n) × (length (now wits) ≡ l * (4 * k)) × (pointsFit k (now points) ≡ true) ⌝ }
+    requires { ⌜ answer (listChecks m n k l (now points) (now a) (now b) (now c) (now items) (now wits)) ≡ 0 ⌝ }
+    ensures { λ r. ⌜ r ≡ answer (claimChecks m n k l (now (points .entry)) (now (a .entry)) (now (b .entry)) (now (c .entry)) (now (items .entry)) (now (wits .entry))) ⌝ }
 {
     let front = item::front(m, n);
     let size = item::size(m, n);
-    if !crate::claims::all_match(k, l, size, front, items, wits) {
+    if !crate::claims::all_match(k, l, size, front, points, items, wits) {
         return 10;
     }
     if !crate::claims::all_hold(m, n, k, l, size, a, b, c, items, wits) {

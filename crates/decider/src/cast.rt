@@ -1,13 +1,13 @@
-// Casting: takes r as lent, sets e to 0 and works out the root. Checks 2, 3, 4 and 11.
+// Casting: takes r as lent, sets e to 0 and works out the root. Checks 2, 3, 12, 4 and 11.
 ghost use mathlib.Core.Path.{_≡_};
 ghost use mathlib.Core.Bool.{true, _&&_};
-ghost use mathlib.Core.List.{_∷_, _++_};
+ghost use mathlib.Core.List.{[], _∷_, _++_};
 ghost use Prim.Native.Nat.{_+_, _*_, _≤_};
 ghost use lib.ListN.{length};
 ghost use Rattle.numbers.specs.Numbers.{numbers};
 ghost use Rattle.code.specs.Points.{isWitnessCount};
 ghost use Rattle.theory.specs.Checks.{answer};
-ghost use Rattle.theory.specs.Sizes.{circuitBelow, elementsBelow, circuitInOrder};
+ghost use Rattle.theory.specs.Sizes.{pointsFit, circuitBelow, elementsBelow, circuitInOrder};
 ghost use Rattle.theory.specs.Fp.{elements, circuit, itemSize, itemBytes, holds, castFits, castChecks, castItem, cast};
 use checks::item;
 
@@ -16,6 +16,7 @@ fn fits(
     m: u32,
     n: u32,
     k: u32,
+    points: &[u8],
     a: &[u8],
     b: &[u8],
     c: &[u8],
@@ -24,9 +25,10 @@ fn fits(
     w: &[u8],
     item: &[u8],
 ) -> bool
-    ensures { λ res. ⌜ res ≡ castFits m n k (now (a .entry)) (now (b .entry)) (now (c .entry)) (now (r .entry)) (now (x .entry)) (now (w .entry)) (now (item .entry)) ⌝ }
+    ensures { λ res. ⌜ res ≡ castFits m n k (now (points .entry)) (now (a .entry)) (now (b .entry)) (now (c .entry)) (now (r .entry)) (now (x .entry)) (now (w .entry)) (now (item .entry)) ⌝ }
 {
     checks::sizes::sizes(m, n, k)
+        & checks::points::fits(k as usize, points)
         & checks::sizes::circuit_fits(a, b, c)
         & (r.len() == 4 * (m as usize))
         & (x.len() == 4 * (n as usize))
@@ -55,7 +57,7 @@ fn below(
         & checks::elements::elements_below(w, k)
 }
 
-// Check 11: the value is 0.
+// Check 11: the value is 0. The item's root, and so the points, do not count.
 fn holds(
     m: usize,
     n: usize,
@@ -69,7 +71,7 @@ fn holds(
 ) -> bool
     requires { ⌜ (m ≤ 6) × (n ≤ 64) × (k ≤ 64) × (length (now r) ≡ 4 * m) × (length (now x) ≡ 4 * n) × (length (now w) ≡ 4 * k) ⌝ }
     requires { ⌜ (elementsBelow (now r) ≡ true) × (circuitInOrder m n k (now a) (now b) (now c) ≡ true) ⌝ }
-    ensures { λ res. ⌜ res ≡ holds (circuit (now (a .entry)) (now (b .entry)) (now (c .entry))) (castItem m n k (now (r .entry)) (now (x .entry)) (now (w .entry))) (elements k (now (w .entry))) ⌝ }
+    ensures { λ res. ⌜ res ≡ holds (circuit (now (a .entry)) (now (b .entry)) (now (c .entry))) (castItem m n k [] (now (r .entry)) (now (x .entry)) (now (w .entry))) (elements k (now (w .entry))) ⌝ }
 {
     checks::claims::claim_value(m, n, k, a, b, c, r, x, w) == 0
 }
@@ -79,6 +81,7 @@ fn verdict(
     m: u32,
     n: u32,
     k: u32,
+    points: &[u8],
     a: &[u8],
     b: &[u8],
     c: &[u8],
@@ -87,9 +90,9 @@ fn verdict(
     w: &[u8],
     item: &[u8],
 ) -> u32
-    ensures { λ res. ⌜ res ≡ answer (castChecks m n k (now (a .entry)) (now (b .entry)) (now (c .entry)) (now (r .entry)) (now (x .entry)) (now (w .entry)) (now (item .entry))) ⌝ }
+    ensures { λ res. ⌜ res ≡ answer (castChecks m n k (now (points .entry)) (now (a .entry)) (now (b .entry)) (now (c .entry)) (now (r .entry)) (now (x .entry)) (now (w .entry)) (now (item .entry))) ⌝ }
 {
-    if !fits(m, n, k, a, b, c, r, x, w, item) {
+    if !fits(m, n, k, points, a, b, c, r, x, w, item) {
         return 2;
     }
     let ms = m as usize;
@@ -97,6 +100,9 @@ fn verdict(
     let ks = k as usize;
     if !below(ms, ns, ks, a, b, c, r, x, w) {
         return 3;
+    }
+    if !checks::points::differ(ks, points) {
+        return 12;
     }
     if !checks::order::circuit_in_order(ms, ns, ks, a, b, c) {
         return 4;
@@ -119,14 +125,14 @@ fn collect(m: usize, r: &[u8], x: &[u8], values: &mut [u32])
 }
 
 // Writes e, r and x of the new item and its root.
-fn write(m: usize, n: usize, k: usize, r: &[u8], x: &[u8], w: &[u8], out: &mut [u8])
-    requires { ⌜ (m ≤ 6) × (n ≤ 64) × (isWitnessCount k ≡ true) × (length (now r) ≡ 4 * m) × (length (now x) ≡ 4 * n) × (length (now w) ≡ 4 * k) × (length (now out) ≡ itemSize m n) ⌝ }
+fn write(m: usize, n: usize, k: usize, points: &[u8], r: &[u8], x: &[u8], w: &[u8], out: &mut [u8])
+    requires { ⌜ (m ≤ 6) × (n ≤ 64) × (isWitnessCount k ≡ true) × (length (now r) ≡ 4 * m) × (length (now x) ≡ 4 * n) × (length (now w) ≡ 4 * k) × (length (now out) ≡ itemSize m n) × (pointsFit k (now points) ≡ true) ⌝ }
     requires { ⌜ (elementsBelow (now r) ≡ true) × (elementsBelow (now x) ≡ true) × (elementsBelow (now w) ≡ true) ⌝ }
-    ensures { λ _. ⌜ now (out .exit) ≡ itemBytes (castItem m n k (now (r .entry)) (now (x .entry)) (now (w .entry))) ⌝ }
+    ensures { λ _. ⌜ now (out .exit) ≡ itemBytes (castItem m n k (now (points .entry)) (now (r .entry)) (now (x .entry)) (now (w .entry))) ⌝ }
 {
     let mut values = [0u32; 71];
     let count = 1 + m + n;
-    let root = checks::witness::root(k, w);
+    let root = checks::witness::root(k, points, w);
     collect(m, r, x, &mut values[..count]);
     item::write(&values[..count], root, out);
 }
@@ -135,6 +141,7 @@ pub fn cast(
     m: u32,
     n: u32,
     k: u32,
+    points: &[u8],
     a: &[u8],
     b: &[u8],
     c: &[u8],
@@ -143,13 +150,13 @@ pub fn cast(
     w: &[u8],
     item: &mut [u8],
 ) -> u32
-    ensures answer { λ res. ⌜ res ≡ cast m n k (now (a .entry)) (now (b .entry)) (now (c .entry)) (now (r .entry)) (now (x .entry)) (now (w .entry)) (now (item .entry)) .answer ⌝ }
-    ensures item { λ res. ⌜ now (item .exit) ≡ cast m n k (now (a .entry)) (now (b .entry)) (now (c .entry)) (now (r .entry)) (now (x .entry)) (now (w .entry)) (now (item .entry)) .item ⌝ }
+    ensures answer { λ res. ⌜ res ≡ cast m n k (now (points .entry)) (now (a .entry)) (now (b .entry)) (now (c .entry)) (now (r .entry)) (now (x .entry)) (now (w .entry)) (now (item .entry)) .answer ⌝ }
+    ensures item { λ res. ⌜ now (item .exit) ≡ cast m n k (now (points .entry)) (now (a .entry)) (now (b .entry)) (now (c .entry)) (now (r .entry)) (now (x .entry)) (now (w .entry)) (now (item .entry)) .item ⌝ }
 {
-    let answer = verdict(m, n, k, a, b, c, r, x, w, item);
+    let answer = verdict(m, n, k, points, a, b, c, r, x, w, item);
     if answer != 0 {
         return answer;
     }
-    write(m as usize, n as usize, k as usize, r, x, w, item);
+    write(m as usize, n as usize, k as usize, points, r, x, w, item);
     0
 }

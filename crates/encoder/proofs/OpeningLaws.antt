@@ -17,11 +17,10 @@ use Rattle.hash.specs.Sha256.{digest}
 use Rattle.tree.specs.Merkle.{path}
 use Rattle.tree.specs.Layout.{openingSize, flat, openingBytes, ownOpening, ownOpenings}
 use Rattle.code.specs.Points.{isWitnessCount, depth}
-use Rattle.code.proofs.Numbers.{codeword-numbers-length}
 use Rattle.code.proofs.Sizes.{for-witness-counts, depth-leaves}
-use Rattle.checks.proofs.WitnessLaws.{entries-leaves}
+use Rattle.checks.proofs.WitnessLaws.{entries-leaves, codeword-count}
 use Rattle.theory.specs.Folds.{Opening}
-use Rattle.theory.specs.Sizes.{positionsBelow}
+use Rattle.theory.specs.Sizes.{pointsFit, positionsBelow}
 use Rattle.theory.specs.Buffers as buffers
 use Rattle.theory.specs.Fp.{fp, codewordOf, openingOf, openingsOf}
 
@@ -57,19 +56,19 @@ module _ (k t : ℕ) (positions : List ℕ) (long : length positions ≡ 4 * t) 
   counted = length-numbers t positions long
 
   -- The openings of a witness, by the numbers xs of its codeword.
-  module _ (es : List F) {xs : List ℕ} (read : xs ≡ map val (codewordOf k es)) where
-    pub openings-read : ownOpenings digest d xs (numbers positions) ≡ openingsOf k t es (numbers positions)
+  module _ (points : List ℕ) (fits : pointsFit k points ≡ true) (es : List F) {xs : List ℕ} (read : xs ≡ map val (codewordOf k points es)) where
+    pub openings-read : ownOpenings digest d xs (numbers positions) ≡ openingsOf k t points es (numbers positions)
     openings-read =
         ap₂ (λ (n : ℕ) (vs : List ℕ). ownOpenings digest n vs (numbers positions)) deep read
-        ∙ flat-concat t (numbers positions) (ownOpening digest (depth k) (map val (codewordOf k es))) _ counted each
+        ∙ flat-concat t (numbers positions) (ownOpening digest (depth k) (map val (codewordOf k points es))) _ counted each
       where
-        each : (q : ℕ) → q < t → ownOpening digest (depth k) (map val (codewordOf k es)) (getD (numbers positions) q 0) ≡ buffers.openingBytes fp (openingOf k es (getD (numbers positions) q 0))
+        each : (q : ℕ) → q < t → ownOpening digest (depth k) (map val (codewordOf k points es)) (getD (numbers positions) q 0) ≡ buffers.openingBytes fp (openingOf k points es (getD (numbers positions) q 0))
         each q h =
             ap₂ (λ (v : ℕ) (ds : List (List ℕ)). openingBytes v (path digest (depth k) ds (getD (numbers positions) q 0)))
-            (getD-map val (codewordOf k es) (getD (numbers positions) q 0) 𝟘 0
-            (omega (arith, below (4 * k) (numbers positions) small q (omega (arith, counted)), codeword-numbers-length k es, length-map (codewordOf k es) val)))
-            (entries-leaves (codewordOf k es))
-            ∙ opening-bytes (openingOf k es (getD (numbers positions) q 0))
+            (getD-map val (codewordOf k points es) (getD (numbers positions) q 0) 𝟘 0
+            (omega (arith, below (4 * k) (numbers positions) small q (omega (arith, counted)), codeword-count k points es fits, length-map (codewordOf k points es) val)))
+            (entries-leaves (codewordOf k points es))
+            ∙ opening-bytes (openingOf k points es (getD (numbers positions) q 0))
 
   -- What the tree's writer asks of the positions and of the buffer.
   pub positions-inside : isWitnessCount k ≡ true → allBelow (2 ^ d) (numbers positions) ≡ true

@@ -1,13 +1,15 @@
 // The code.
 ghost use mathlib.Core.Path.{_≡_};
-ghost use mathlib.Core.List.{map};
+ghost use mathlib.Core.Bool.{_&&_};
+ghost use mathlib.Core.List.{[], _∷_, map};
 ghost use lib.ListN.{length};
 ghost use Rattle.numbers.specs.Numbers.{allBelow};
 ghost use Rattle.field.specs.BabyBear.{p, R, val, ofℕ};
 ghost use Rattle.code.specs.Codeword.{codeword};
-ghost use Rattle.code.specs.Points.{points};
+ghost use Rattle.code.specs.Points.{isWitnessCount, points};
 ghost use Rattle.harness.specs.Answers.{permittedAnswer};
-ghost use Rattle.theory.specs.Checks.{written};
+ghost use Rattle.theory.specs.Checks.{check, answer, written};
+ghost use Rattle.theory.specs.Sizes.{pointsFit, pointsDiffer};
 ghost use Rattle.harness.specs.Permitted.{codewordSizes, codewordPermitted, codewordAtPermitted};
 
 // Whether all numbers are below p.
@@ -66,5 +68,19 @@ pub extern "C" fn lomvuze_test_codeword_at(w: &[u32], points: &[u32], out: &mut 
         return 1;
     }
     code::codeword(w, points, out);
+    0
+}
+
+// Checks 2 and 12 of the points that are lent for k witness numbers.
+#[no_mangle]
+pub extern "C" fn lomvuze_test_points(k: u32, points: &[u8]) -> u32
+    ensures { λ r. ⌜ r ≡ answer (check 2 (isWitnessCount k && pointsFit k (now (points .entry))) ∷ check 12 (pointsDiffer (now (points .entry))) ∷ []) ⌝ }
+{
+    if !(code::is_witness_count(k) & checks::points::fits(k as usize, points)) {
+        return 2;
+    }
+    if !checks::points::differ(k as usize, points) {
+        return 12;
+    }
     0
 }

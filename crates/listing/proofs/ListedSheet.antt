@@ -99,7 +99,7 @@ module _ (s a b c items wits : List ℕ) (fit : buffersFit a b c items wits ≡ 
     unfolding readSheet
     front-wits = filled-front (bytesOf Wit ls) wits (zero-answer called z) read-wits (wits-long called z ∙ mul-left-comm 4 (r .pairs) (r .k))
 
-    -- Checks 3 and 4.
+    -- Checks 3 and 4, between which the sheet passes 12.
     items-below : itemsBelow (m ls) (n ls) (pairs ls) (bytesOf Item ls) ≡ true
     items-below =
         let circuit-below = circuitBelow (bytesOf EntryA ls) (bytesOf EntryB ls) (bytesOf EntryC ls) in
@@ -107,7 +107,7 @@ module _ (s a b c items wits : List ℕ) (fit : buffersFit a b c items wits ≡ 
         and-right circuit-below below (and-left (circuit-below && below) (elementsBelow (bytesOf Wit ls)) (all-passed called z .1 .1 .0))
 
     in-order : circuitInOrder (m ls) (n ls) (k ls) (bytesOf EntryA ls) (bytesOf EntryB ls) (bytesOf EntryC ls) ≡ true
-    in-order = all-passed called z .1 .1 .1 .0
+    in-order = all-passed called z .1 .1 .1 .1 .0
 
     -- What the listing asks, and the listing.
     pub asked : Readable r a′ b′ c′ items′ wits′

@@ -9,6 +9,7 @@ use borrow.Author.Tests.{lt-ltb, le-ltb, ltb-true}
 use lib.Dec.{ltb}
 use lib.ListN.{length, getD, drop, drop-of-length-le}
 use lib.Seq.{drop-cons}
+use Rattle.algebra.specs.Lists.{All}
 use Rattle.numbers.specs.Numbers.{allBelow}
 
 -- each entry is below m
@@ -25,6 +26,11 @@ unfolding allBelow
 below m [] e i l = absurd (omega arith)
 below m (x ∷ xs) e zero l = ltb-true x m (both (ltb x m) (allBelow m xs) e .0)
 below m (x ∷ xs) e (suc i) l = below m xs (both (ltb x m) (allBelow m xs) e .1) i (omega arith)
+
+pub each-below : (m : ℕ) (xs : List ℕ) → allBelow m xs ≡ true → All (λ x. x < m) xs
+unfolding allBelow
+each-below m [] e = tt
+each-below m (x ∷ xs) e = let t = both (ltb x m) (allBelow m xs) e in (ltb-true x m (t .0), each-below m xs (t .1))
 
 -- and passes it only then
 pub all-below : (m : ℕ) (xs : List ℕ) → Below m xs → allBelow m xs ≡ true

@@ -1,9 +1,10 @@
 -- Numbers in byte buffers: a number takes four bytes, lowest first.
 -- A buffer is the list of its bytes, and `getD xs i 0` is entry i of xs, counted from 0.
 use mathlib.Core.List.{List, [], _∷_, _++_}
-use mathlib.Core.Bool.{Bool, true, _&&_}
+use mathlib.Core.Bool.{Bool, true, not, _&&_}
 use Prim.Native.Nat.{ℕ, _+_, _*_, _/_, _%_}
-use lib.Dec.{ltb}
+use lib.Dec.{eqb, ltb}
+use Rattle.numbers.specs.Equality.{among}
 
 -- the number that the bytes a b c d make
 abbrev pub number4 : ℕ → ℕ → ℕ → ℕ → ℕ
@@ -30,3 +31,8 @@ bytes (x ∷ xs) = bytes4 x ++ bytes xs
 unfoldable pub allBelow : ℕ → List ℕ → Bool
 allBelow m [] = true
 allBelow m (x ∷ xs) = ltb x m && allBelow m xs
+
+-- whether no number of a list repeats another
+unfoldable pub allDifferent : List ℕ → Bool
+allDifferent [] = true
+allDifferent (x ∷ xs) = not (among eqb x xs) && allDifferent xs

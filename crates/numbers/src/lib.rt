@@ -3,7 +3,9 @@ ghost use mathlib.Core.Path.{_≡_};
 ghost use mathlib.Core.List.{_++_};
 ghost use Prim.Native.Nat.{_+_, _*_, _≤_, _<_};
 ghost use lib.ListN.{length, getD, take, drop};
-ghost use Rattle.numbers.specs.Numbers.{numbers, bytes4, bytes, allBelow};
+ghost use lib.Dec.{eqb};
+ghost use Rattle.numbers.specs.Equality.{among};
+ghost use Rattle.numbers.specs.Numbers.{numbers, bytes4, bytes, allBelow, allDifferent};
 
 // A byte as a number of 32 bits.
 fn wide(x: u8) -> u32
@@ -56,6 +58,34 @@ pub fn all_below(b: &[u8], n: usize, m: u32) -> bool
             return false;
         }
         i += 1;
+    }
+    true
+}
+
+// Whether x is one of the numbers. The loop has one way through it, so that the compiler takes several numbers at a time.
+fn is_among(x: u32, xs: &[u32]) -> bool
+    ensures { λ r. ⌜ r ≡ among eqb x (now (xs .entry)) ⌝ }
+{
+    let mut found = false;
+    let mut i = 0;
+    while i < xs.len() {
+        found = found | (x == xs[i]);
+        i += 1;
+    }
+    found
+}
+
+// Whether no number repeats another.
+pub fn all_different(xs: &[u32]) -> bool
+    ensures { λ r. ⌜ r ≡ allDifferent (now (xs .entry)) ⌝ }
+{
+    let mut i = 0;
+    while i < xs.len() {
+        let x = xs[i];
+        i += 1;
+        if is_among(x, &xs[i..]) {
+            return false;
+        }
     }
     true
 }

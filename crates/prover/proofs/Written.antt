@@ -72,10 +72,10 @@ new-numbers-length m n items q a e =
 pub quotient-below : (q : List F) {values : List ℕ} → values ≡ map val q → Below values
 quotient-below q e = subst Below (sym e) (values-below q)
 
-pub new-item-written : (m n k l : ℕ) (a : F) (items wits : List ℕ) (q : List F) {values wit out : List ℕ} → values ≡ map val q → wit ≡ elementBytes (newWitness k l a wits)
-    → out ≡ elementBytes (newE babyBear (readItems m n l items) (map ofℕ values) a ∷ newR babyBear m (readItems m n l items) a ++ newX babyBear n (readItems m n l items) a) ++ witnessRoot k (elements k wit)
-    → out ≡ itemBytes (newItem m n k l a items wits q)
-new-item-written m n k l a items wits q ev ew eo =
+pub new-item-written : (m n k l : ℕ) (a : F) (points items wits : List ℕ) (q : List F) {values wit out : List ℕ} → values ≡ map val q → wit ≡ elementBytes (newWitness k l a wits)
+    → out ≡ elementBytes (newE babyBear (readItems m n l items) (map ofℕ values) a ∷ newR babyBear m (readItems m n l items) a ++ newX babyBear n (readItems m n l items) a) ++ witnessRoot k points (elements k wit)
+    → out ≡ itemBytes (newItem m n k l a points items wits q)
+new-item-written m n k l a points items wits q ev ew eo =
     eo
-    ∙ ap₂ (λ (c w : List F). elementBytes (newE babyBear (readItems m n l items) c a ∷ newR babyBear m (readItems m n l items) a ++ newX babyBear n (readItems m n l items) a) ++ witnessRoot k w)
+    ∙ ap₂ (λ (c w : List F). elementBytes (newE babyBear (readItems m n l items) c a ∷ newR babyBear m (readItems m n l items) a ++ newX babyBear n (readItems m n l items) a) ++ witnessRoot k points w)
     (ap (map ofℕ) ev ∙ elements-of-numbers q) (witness-read k l a wits ew)

@@ -1,19 +1,17 @@
-// Folding: the quotient, the new item and the new witness at a challenge. Checks 2, 3, 4, 5, 10 and 11.
+// Folding: the quotient, the new item and the new witness at a challenge. Checks 2, 3, 12, 4, 5, 10 and 11.
 ghost use mathlib.Core.Path.{_≡_};
 ghost use mathlib.Core.Bool.{true};
-ghost use mathlib.Core.List.{_∷_, _++_, map};
 ghost use Prim.Native.Nat.{ℕ, _*_, _≤_, _<_};
 ghost use lib.ListN.{length};
-ghost use Rattle.field.specs.BabyBear.{babyBear, p, ofℕ};
-ghost use Rattle.field.specs.Numbers.{Below};
+ghost use Rattle.field.specs.BabyBear.{p, ofℕ};
 ghost use Rattle.code.specs.Points.{isWitnessCount};
 ghost use Rattle.theory.specs.Checks.{answer};
-ghost use Rattle.theory.specs.Combination.{newE, newR, newX, quotientSize};
-ghost use Rattle.theory.specs.Sizes.{elementsBelow};
-ghost use Rattle.theory.specs.Fp.{witnessRoot, elements, elementBytes, itemSize, itemBytes, readItems, listQuotient, newWitness, newItem, foldOutputsFit, foldFits, foldChecks, fold};
-ghost use Rattle.fold.specs.Weights.{lagrangeAt};
+ghost use Rattle.theory.specs.Combination.{quotientSize};
+ghost use Rattle.theory.specs.Sizes.{pointsFit};
+ghost use Rattle.theory.specs.Fp.{elementBytes, itemSize, itemBytes, listQuotient, newWitness, newItem, foldOutputsFit, foldFits, foldChecks, fold};
 ghost use Rattle.fold.specs.Fits.{Fits};
 use crate::list;
+use crate::new;
 
 // The lengths of the output buffers.
 fn outputs_fit(m: usize, n: usize, k: usize, l: usize, q: &[u8], item: &[u8], wit: &[u8]) -> bool
@@ -31,6 +29,7 @@ fn fits(
     n: u32,
     k: u32,
     l: u32,
+    points: &[u8],
     a: &[u8],
     b: &[u8],
     c: &[u8],
@@ -40,9 +39,9 @@ fn fits(
     item: &[u8],
     wit: &[u8],
 ) -> bool
-    ensures { λ r. ⌜ ((challenge : ℕ) → r ≡ foldFits m n k l challenge (now (a .entry)) (now (b .entry)) (now (c .entry)) (now (items .entry)) (now (wits .entry)) (now (q .entry)) (now (item .entry)) (now (wit .entry))) ⌝ }
+    ensures { λ r. ⌜ ((challenge : ℕ) → r ≡ foldFits m n k l challenge (now (points .entry)) (now (a .entry)) (now (b .entry)) (now (c .entry)) (now (items .entry)) (now (wits .entry)) (now (q .entry)) (now (item .entry)) (now (wit .entry))) ⌝ }
 {
-    if !checks::list::fits(m, n, k, l, a, b, c, items, wits) {
+    if !checks::list::fits(m, n, k, l, points, a, b, c, items, wits) {
         return false;
     }
     outputs_fit(m as usize, n as usize, k as usize, l as usize, q, item, wit)
@@ -54,6 +53,7 @@ fn verdict(
     k: u32,
     l: u32,
     challenge: u32,
+    points: &[u8],
     a: &[u8],
     b: &[u8],
     c: &[u8],
@@ -63,57 +63,23 @@ fn verdict(
     item: &[u8],
     wit: &[u8],
 ) -> u32
-    ensures { λ r. ⌜ r ≡ answer (foldChecks m n k l challenge (now (a .entry)) (now (b .entry)) (now (c .entry)) (now (items .entry)) (now (wits .entry)) (now (q .entry)) (now (item .entry)) (now (wit .entry))) ⌝ }
+    ensures { λ r. ⌜ r ≡ answer (foldChecks m n k l challenge (now (points .entry)) (now (a .entry)) (now (b .entry)) (now (c .entry)) (now (items .entry)) (now (wits .entry)) (now (q .entry)) (now (item .entry)) (now (wit .entry))) ⌝ }
 {
-    if !fits(m, n, k, l, a, b, c, items, wits, q, item, wit) {
+    if !fits(m, n, k, l, points, a, b, c, items, wits, q, item, wit) {
         return 2;
     }
     let ms = m as usize;
     let ns = n as usize;
     let ks = k as usize;
     let ls = l as usize;
-    let listed = checks::list::verdict(ms, ns, ks, ls, a, b, c, items, wits);
+    let listed = checks::list::verdict(ms, ns, ks, ls, points, a, b, c, items, wits);
     if listed != 0 {
         return listed;
     }
     if !checks::sizes::challenge_fits(l, challenge) {
         return 5;
     }
-    checks::list::claims(ms, ns, ks, ls, a, b, c, items, wits)
-}
-
-// Writes the new witness, with the given weights.
-fn write_witness(k: usize, l: usize, at: u32, weights: &[u32], wits: &[u8], out: &mut [u8])
-    requires { ⌜ (k ≤ 64) × (1 ≤ l) × (length (now wits) ≡ l * (4 * k)) × (now weights ≡ lagrangeAt l at) × (length (now out) ≡ 4 * k) ⌝ }
-    ensures { λ _. ⌜ now (out .exit) ≡ elementBytes (newWitness k l (ofℕ at) (now (wits .entry))) ⌝ }
-{
-    let mut values = [0u32; 64];
-    fold::combine::combine(weights, wits, k, 0, &mut values[..k]);
-    numbers::store(&values[..k], out);
-}
-
-// Writes the new item, with the given weights, the quotient's numbers and the new witness.
-fn write_item(
-    m: usize,
-    n: usize,
-    k: usize,
-    l: usize,
-    at: u32,
-    weights: &[u32],
-    items: &[u8],
-    q: &[u32],
-    wit: &[u8],
-    out: &mut [u8],
-)
-    requires { ⌜ (m ≤ 6) × (n ≤ 64) × (1 ≤ l) × (l ≤ 8) × (at < p) × (length (now items) ≡ l * itemSize m n) × (now weights ≡ lagrangeAt l at) × Below (now q) × (length (now out) ≡ itemSize m n) ⌝ }
-    requires { ⌜ (isWitnessCount k ≡ true) × (length (now wit) ≡ 4 * k) × (elementsBelow (now wit) ≡ true) ⌝ }
-    ensures { λ _. ⌜ now (out .exit) ≡ elementBytes (newE babyBear (readItems m n l (now (items .entry))) (map ofℕ (now (q .entry))) (ofℕ at) ∷ newR babyBear m (readItems m n l (now (items .entry))) (ofℕ at) ++ newX babyBear n (readItems m n l (now (items .entry))) (ofℕ at)) ++ witnessRoot k (elements k (now (wit .entry))) ⌝ }
-{
-    let mut values = [0u32; 71];
-    let count = 1 + m + n;
-    let stride = checks::item::size(m, n) / 4;
-    fold::new_item::new_numbers(m, n, l, stride, at, weights, items, q, &mut values[..count]);
-    checks::item::write(&values[..count], checks::witness::root(k, wit), out);
+    checks::list::claims(ms, ns, ks, ls, points, a, b, c, items, wits)
 }
 
 // Writes the quotient, the new witness and the new item; values is scratch space for the quotient's numbers, weights for the L_i.
@@ -123,6 +89,7 @@ fn write_in(
     k: usize,
     l: usize,
     at: u32,
+    points: &[u8],
     a: &[u8],
     b: &[u8],
     c: &[u8],
@@ -134,18 +101,18 @@ fn write_in(
     item: &mut [u8],
     wit: &mut [u8],
 )
-    requires { ⌜ Fits m n k l (now a) (now b) (now c) (now items) (now wits) × (isWitnessCount k ≡ true) × (at < p) ⌝ }
+    requires { ⌜ Fits m n k l (now a) (now b) (now c) (now items) (now wits) × (isWitnessCount k ≡ true) × (at < p) × (pointsFit k (now points) ≡ true) ⌝ }
     requires { ⌜ (length (now values) ≡ quotientSize m l) × (length (now weights) ≡ l) ⌝ }
     requires { ⌜ (length (now q) ≡ 4 * quotientSize m l) × (length (now item) ≡ itemSize m n) × (length (now wit) ≡ 4 * k) ⌝ }
     ensures { λ _. ⌜ now (q .exit) ≡ elementBytes (listQuotient m n k l (now (a .entry)) (now (b .entry)) (now (c .entry)) (now (items .entry)) (now (wits .entry))) ⌝ }
-    ensures { λ _. ⌜ now (item .exit) ≡ itemBytes (newItem m n k l (ofℕ at) (now (items .entry)) (now (wits .entry)) (listQuotient m n k l (now (a .entry)) (now (b .entry)) (now (c .entry)) (now (items .entry)) (now (wits .entry)))) ⌝ }
+    ensures { λ _. ⌜ now (item .exit) ≡ itemBytes (newItem m n k l (ofℕ at) (now (points .entry)) (now (items .entry)) (now (wits .entry)) (listQuotient m n k l (now (a .entry)) (now (b .entry)) (now (c .entry)) (now (items .entry)) (now (wits .entry)))) ⌝ }
     ensures { λ _. ⌜ now (wit .exit) ≡ elementBytes (newWitness k l (ofℕ at) (now (wits .entry))) ⌝ }
 {
     crate::quotient::write_in(m, n, k, l, a, b, c, items, wits, values, q);
     let inverses = field::inverses();
     fold::basis::lagrange(at, &inverses, weights);
-    write_witness(k, l, at, weights, wits, wit);
-    write_item(m, n, k, l, at, weights, items, values, wit, item);
+    new::write_witness(k, l, at, weights, wits, wit);
+    new::write_item(m, n, k, l, at, points, weights, items, values, wit, item);
 }
 
 // Writes the quotient, the new item and the new witness.
@@ -155,6 +122,7 @@ fn write(
     k: usize,
     l: usize,
     at: u32,
+    points: &[u8],
     a: &[u8],
     b: &[u8],
     c: &[u8],
@@ -164,10 +132,10 @@ fn write(
     item: &mut [u8],
     wit: &mut [u8],
 )
-    requires { ⌜ Fits m n k l (now a) (now b) (now c) (now items) (now wits) × (isWitnessCount k ≡ true) × (at < p) ⌝ }
+    requires { ⌜ Fits m n k l (now a) (now b) (now c) (now items) (now wits) × (isWitnessCount k ≡ true) × (at < p) × (pointsFit k (now points) ≡ true) ⌝ }
     requires { ⌜ (length (now q) ≡ 4 * quotientSize m l) × (length (now item) ≡ itemSize m n) × (length (now wit) ≡ 4 * k) ⌝ }
     ensures { λ _. ⌜ now (q .exit) ≡ elementBytes (listQuotient m n k l (now (a .entry)) (now (b .entry)) (now (c .entry)) (now (items .entry)) (now (wits .entry))) ⌝ }
-    ensures { λ _. ⌜ now (item .exit) ≡ itemBytes (newItem m n k l (ofℕ at) (now (items .entry)) (now (wits .entry)) (listQuotient m n k l (now (a .entry)) (now (b .entry)) (now (c .entry)) (now (items .entry)) (now (wits .entry)))) ⌝ }
+    ensures { λ _. ⌜ now (item .exit) ≡ itemBytes (newItem m n k l (ofℕ at) (now (points .entry)) (now (items .entry)) (now (wits .entry)) (listQuotient m n k l (now (a .entry)) (now (b .entry)) (now (c .entry)) (now (items .entry)) (now (wits .entry)))) ⌝ }
     ensures { λ _. ⌜ now (wit .exit) ≡ elementBytes (newWitness k l (ofℕ at) (now (wits .entry))) ⌝ }
 {
     let mut values = [0u32; 49];
@@ -179,6 +147,7 @@ fn write(
         k,
         l,
         at,
+        points,
         a,
         b,
         c,
@@ -198,6 +167,7 @@ pub fn fold(
     k: u32,
     l: u32,
     challenge: u32,
+    points: &[u8],
     a: &[u8],
     b: &[u8],
     c: &[u8],
@@ -207,10 +177,10 @@ pub fn fold(
     item: &mut [u8],
     wit: &mut [u8],
 ) -> u32
-    ensures answer { λ r. ⌜ r ≡ fold m n k l challenge (now (a .entry)) (now (b .entry)) (now (c .entry)) (now (items .entry)) (now (wits .entry)) (now (quotient .entry)) (now (item .entry)) (now (wit .entry)) .answer ⌝ }
-    ensures quotient { λ r. ⌜ now (quotient .exit) ≡ fold m n k l challenge (now (a .entry)) (now (b .entry)) (now (c .entry)) (now (items .entry)) (now (wits .entry)) (now (quotient .entry)) (now (item .entry)) (now (wit .entry)) .quotient ⌝ }
-    ensures item { λ r. ⌜ now (item .exit) ≡ fold m n k l challenge (now (a .entry)) (now (b .entry)) (now (c .entry)) (now (items .entry)) (now (wits .entry)) (now (quotient .entry)) (now (item .entry)) (now (wit .entry)) .item ⌝ }
-    ensures wit { λ r. ⌜ now (wit .exit) ≡ fold m n k l challenge (now (a .entry)) (now (b .entry)) (now (c .entry)) (now (items .entry)) (now (wits .entry)) (now (quotient .entry)) (now (item .entry)) (now (wit .entry)) .wit ⌝ }
+    ensures answer { λ r. ⌜ r ≡ fold m n k l challenge (now (points .entry)) (now (a .entry)) (now (b .entry)) (now (c .entry)) (now (items .entry)) (now (wits .entry)) (now (quotient .entry)) (now (item .entry)) (now (wit .entry)) .answer ⌝ }
+    ensures quotient { λ r. ⌜ now (quotient .exit) ≡ fold m n k l challenge (now (points .entry)) (now (a .entry)) (now (b .entry)) (now (c .entry)) (now (items .entry)) (now (wits .entry)) (now (quotient .entry)) (now (item .entry)) (now (wit .entry)) .quotient ⌝ }
+    ensures item { λ r. ⌜ now (item .exit) ≡ fold m n k l challenge (now (points .entry)) (now (a .entry)) (now (b .entry)) (now (c .entry)) (now (items .entry)) (now (wits .entry)) (now (quotient .entry)) (now (item .entry)) (now (wit .entry)) .item ⌝ }
+    ensures wit { λ r. ⌜ now (wit .exit) ≡ fold m n k l challenge (now (points .entry)) (now (a .entry)) (now (b .entry)) (now (c .entry)) (now (items .entry)) (now (wits .entry)) (now (quotient .entry)) (now (item .entry)) (now (wit .entry)) .wit ⌝ }
 {
     let answer = verdict(
         m,
@@ -218,6 +188,7 @@ pub fn fold(
         k,
         l,
         challenge,
+        points,
         a,
         b,
         c,
@@ -236,6 +207,7 @@ pub fn fold(
         k as usize,
         l as usize,
         challenge,
+        points,
         a,
         b,
         c,

@@ -1,4 +1,4 @@
-// The quotient of a list of items with their witnesses. Checks 2, 3, 4, 10 and 11.
+// The quotient of a list of items with their witnesses. Checks 2, 3, 12, 4, 10 and 11.
 ghost use mathlib.Core.Path.{_≡_};
 ghost use mathlib.Core.List.{map};
 ghost use Prim.Native.Nat.{_*_};
@@ -16,6 +16,7 @@ fn fits(
     n: u32,
     k: u32,
     l: u32,
+    points: &[u8],
     a: &[u8],
     b: &[u8],
     c: &[u8],
@@ -23,9 +24,9 @@ fn fits(
     wits: &[u8],
     out: &[u8],
 ) -> bool
-    ensures { λ r. ⌜ r ≡ quotientFits m n k l (now (a .entry)) (now (b .entry)) (now (c .entry)) (now (items .entry)) (now (wits .entry)) (now (out .entry)) ⌝ }
+    ensures { λ r. ⌜ r ≡ quotientFits m n k l (now (points .entry)) (now (a .entry)) (now (b .entry)) (now (c .entry)) (now (items .entry)) (now (wits .entry)) (now (out .entry)) ⌝ }
 {
-    if !checks::list::fits(m, n, k, l, a, b, c, items, wits) {
+    if !checks::list::fits(m, n, k, l, points, a, b, c, items, wits) {
         return false;
     }
     out.len() == 4 * list::quotient_size(m as usize, l as usize)
@@ -36,6 +37,7 @@ fn verdict(
     n: u32,
     k: u32,
     l: u32,
+    points: &[u8],
     a: &[u8],
     b: &[u8],
     c: &[u8],
@@ -43,20 +45,20 @@ fn verdict(
     wits: &[u8],
     out: &[u8],
 ) -> u32
-    ensures { λ r. ⌜ r ≡ answer (quotientChecks m n k l (now (a .entry)) (now (b .entry)) (now (c .entry)) (now (items .entry)) (now (wits .entry)) (now (out .entry))) ⌝ }
+    ensures { λ r. ⌜ r ≡ answer (quotientChecks m n k l (now (points .entry)) (now (a .entry)) (now (b .entry)) (now (c .entry)) (now (items .entry)) (now (wits .entry)) (now (out .entry))) ⌝ }
 {
-    if !fits(m, n, k, l, a, b, c, items, wits, out) {
+    if !fits(m, n, k, l, points, a, b, c, items, wits, out) {
         return 2;
     }
     let ms = m as usize;
     let ns = n as usize;
     let ks = k as usize;
     let ls = l as usize;
-    let listed = checks::list::verdict(ms, ns, ks, ls, a, b, c, items, wits);
+    let listed = checks::list::verdict(ms, ns, ks, ls, points, a, b, c, items, wits);
     if listed != 0 {
         return listed;
     }
-    checks::list::claims(ms, ns, ks, ls, a, b, c, items, wits)
+    checks::list::claims(ms, ns, ks, ls, points, a, b, c, items, wits)
 }
 
 // Writes the quotient, and leaves its numbers in values.
@@ -108,6 +110,7 @@ pub fn quotient(
     n: u32,
     k: u32,
     l: u32,
+    points: &[u8],
     a: &[u8],
     b: &[u8],
     c: &[u8],
@@ -115,10 +118,10 @@ pub fn quotient(
     wits: &[u8],
     out: &mut [u8],
 ) -> u32
-    ensures answer { λ r. ⌜ r ≡ quotient m n k l (now (a .entry)) (now (b .entry)) (now (c .entry)) (now (items .entry)) (now (wits .entry)) (now (out .entry)) .answer ⌝ }
-    ensures quotient { λ r. ⌜ now (out .exit) ≡ quotient m n k l (now (a .entry)) (now (b .entry)) (now (c .entry)) (now (items .entry)) (now (wits .entry)) (now (out .entry)) .quotient ⌝ }
+    ensures answer { λ r. ⌜ r ≡ quotient m n k l (now (points .entry)) (now (a .entry)) (now (b .entry)) (now (c .entry)) (now (items .entry)) (now (wits .entry)) (now (out .entry)) .answer ⌝ }
+    ensures quotient { λ r. ⌜ now (out .exit) ≡ quotient m n k l (now (points .entry)) (now (a .entry)) (now (b .entry)) (now (c .entry)) (now (items .entry)) (now (wits .entry)) (now (out .entry)) .quotient ⌝ }
 {
-    let answer = verdict(m, n, k, l, a, b, c, items, wits, out);
+    let answer = verdict(m, n, k, l, points, a, b, c, items, wits, out);
     if answer != 0 {
         return answer;
     }

@@ -97,8 +97,11 @@ module _ (d : Document) (a b c items wits : List ℕ) (passes : answer (document
           (
             rw (h .m-is, h .n-is, h .pair-count, h .a-bytes, h .b-bytes, h .c-bytes, h .item-bytes, h .wit-bytes) (passed .1 .0),
             (
-              rw (h .m-is, h .n-is, h .k-is, h .a-bytes, h .b-bytes, h .c-bytes) (passed .1 .1 .0),
-              tt,
+              passed .1 .1 .0,
+              (
+                rw (h .m-is, h .n-is, h .k-is, h .a-bytes, h .b-bytes, h .c-bytes) (passed .1 .1 .1 .0),
+                tt,
+              ),
             ),
           ),
         ),

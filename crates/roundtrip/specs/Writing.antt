@@ -102,7 +102,7 @@ documentChecks d =
     && leb 1 (length (d .pairs)) && leb (length (d .pairs)) 64
     && allPass (λ q. eqb (length (q .numbers)) (1 + d .m + d .n)) (d .pairs)
     && allPass (λ q. eqb (length (q .witness)) (d .k)) (d .pairs))
-    ∷ listChecks (d .m) (d .n) (d .k) (length (d .pairs)) (entryBytes (d .a)) (entryBytes (d .b)) (entryBytes (d .c)) (itemsBytes (d .pairs)) (witnessBytes (d .pairs))
+    ∷ listChecks (d .m) (d .n) (d .k) (length (d .pairs)) [] (entryBytes (d .a)) (entryBytes (d .b)) (entryBytes (d .c)) (itemsBytes (d .pairs)) (witnessBytes (d .pairs))
 
 -- What the reader gives back.
 abbrev pub readBack : Document → List ℕ → List ℕ → List ℕ → List ℕ → List ℕ → ReadSheet

@@ -1,6 +1,6 @@
 -- What an accepted fold has: verifying and deciding answer 0 to it, so each of their checks passes.
 use mathlib.Core.Path.{_≡_, sym, _∙_, ap}
-use mathlib.Core.Bool.{true, _&&_}
+use mathlib.Core.Bool.{true}
 use mathlib.Core.List.{List, [], _∷_}
 use Prim.Native.Nat.{ℕ, suc, _*_, _≤_, _<_}
 use native.Mathlib.Omega.{arith}
@@ -20,17 +20,19 @@ use Rattle.theory.specs.Combination.{newR, newX, newE, quotientSize, Sha
 use Rattle.theory.specs.Folds.{Opening, Shown, Fold, positionCount, openingAt}
 use Rattle.theory.specs.Instance.{Instance, sameElement, sameElements, code}
 use Rattle.theory.specs.Buffers.{elements, circuit, itemSize, readItems, readWitness}
-use Rattle.theory.specs.Sizes.{hasLength, sizes, circuitFits}
+use Rattle.theory.specs.Sizes.{hasLength, sizes, pointsFit, circuitFits}
 use Rattle.theory.specs.Calls.{verify, decide}
 use Rattle.theory.specs.Statements.{FoldBytes, isAccepted, readFold}
-use Rattle.theory.proofs.Passing.{Passes}
+use Rattle.theory.proofs.Passing.{CodeLaws, Passes}
+use Rattle.theory.proofs.InstanceLaws.{InstanceLaws}
+use Rattle.theory.proofs.LentPoints.{code-laws}
 use Rattle.theory.proofs.CheckLaws.{every-true}
 use Rattle.theory.proofs.Passed.{VerifyPasses, verify-passes, DecidePasses, decide-passes}
 use Rattle.theory.proofs.Equality.{equal-element, equal-elements}
 use Rattle.theory.proofs.HonestList.{witness-count, some-item, few-items}
 use Rattle.theory.proofs.Reading.{length-readItems, read-shaped, one-matches, one-holds, openingAt-readShown}
 
-module _ (I : Instance) (m n k l : ℕ) (a b c items quotient : List ℕ) (f : FoldBytes I) (accepted : isAccepted I m n k l a b c items quotient f ≡ true) where
+module _ (I : Instance) (m n k l : ℕ) (points a b c items quotient : List ℕ) (f : FoldBytes I) (accepted : isAccepted I m n k l points a b c items quotient f ≡ true) where
   open Instance I using (field as F, format as E, hash as H)
   open CommRing (F .ring) using (carrier as K)
 
@@ -41,7 +43,7 @@ module _ (I : Instance) (m n k l : ℕ) (a b c items quotient : List ℕ) (f : F
   coefficients = elements I (quotientSize m l) quotient
 
   abbrev fold : Fold K
-  fold = readFold I m n k l a b c items quotient f
+  fold = readFold I m n k l points a b c items quotient f
 
   abbrev shown : Shown K
   shown = fold .shown
@@ -52,20 +54,20 @@ module _ (I : Instance) (m n k l : ℕ) (a b c items quotient : List ℕ) (f : F
   verifying = verify I m n k l (f .t) (f .challenge) items (f .positions) quotient (f .item) (f .openings)
 
   abbrev deciding : ℕ
-  deciding = decide I m n k a b c (f .item) (f .witness)
+  deciding = decide I m n k points a b c (f .item) (f .witness)
 
   verified : VerifyPasses I m n k l (f .t) (f .challenge) items (f .positions) quotient (f .item) (f .openings)
   unfolding verify
   verified = verify-passes I m n k l (f .t) (f .challenge) items (f .positions) quotient (f .item) (f .openings)
       (eqb-true verifying 0 (and-left (eqb verifying 0) (eqb deciding 0) accepted))
 
-  decided : DecidePasses I m n k a b c (f .item) (f .witness)
+  decided : DecidePasses I m n k points a b c (f .item) (f .witness)
   unfolding decide
-  decided = decide-passes I m n k a b c (f .item) (f .witness) (eqb-true deciding 0 (and-right (eqb verifying 0) (eqb deciding 0) accepted))
+  decided = decide-passes I m n k points a b c (f .item) (f .witness) (eqb-true deciding 0 (and-right (eqb verifying 0) (eqb deciding 0) accepted))
 
   -- ---- sizes and counts
 
-  pub counted : isWitnessCount k ≡ true
+  counted : isWitnessCount k ≡ true
   counted = witness-count m n k (verified .fits .sizes-fit)
 
   pub at-most-eight : l ≤ 8
@@ -77,9 +79,15 @@ module _ (I : Instance) (m n k l : ℕ) (a b c items quotient : List ℕ) (f : F
   item-size : length (f .item) ≡ itemSize I m n
   item-size = eqb-true (length (f .item)) (itemSize I m n) (verified .fits .item-fits)
 
+  decide-fits : All (λ t. t ≡ true) (sizes m n k ∷ pointsFit k points ∷ circuitFits a b c ∷ hasLength (f .item) (itemSize I m n) ∷ hasLength (f .witness) (E .size k) ∷ [])
+  decide-fits = each-true (sizes m n k) (pointsFit k points ∷ circuitFits a b c ∷ hasLength (f .item) (itemSize I m n) ∷ hasLength (f .witness) (E .size k) ∷ []) (decided .fits)
+
   witness-size : length (f .witness) ≡ E .size k
-  witness-size = eqb-true (length (f .witness)) (E .size k)
-      (and-right (sizes m n k && circuitFits a b c && hasLength (f .item) (itemSize I m n)) (hasLength (f .witness) (E .size k)) (decided .fits))
+  witness-size = eqb-true (length (f .witness)) (E .size k) (decide-fits .1 .1 .1 .1 .0)
+
+  -- Deciding was lent 4k different points, or none.
+  pub accepted-code : InstanceLaws I → CodeLaws K (code I k points)
+  accepted-code laws = code-laws I laws k counted points (decide-fits .1 .0) (decided .list .differ)
 
   -- ---- check 7: the new item
 
@@ -104,7 +112,7 @@ module _ (I : Instance) (m n k l : ℕ) (a b c items quotient : List ℕ) (f : F
       (openingAt-readShown I m n k l (f .t) (f .challenge) items (f .positions) (f .item) (f .openings) q i (omega (arith, position-count)) (omega (arith, item-count)))
       ∙ digests-length (f .openings) _ (depth k)
 
-  pub passes : Passes F H (code I k) (circuit I a b c) m n batch coefficients fold
+  pub passes : Passes F H (code I k points) (circuit I a b c) m n batch coefficients fold
   passes = record {
     some-item = shaped .some-item;
     item-r = shaped .item-r;
@@ -118,6 +126,6 @@ module _ (I : Instance) (m n k l : ℕ) (a b c items quotient : List ℕ) (f : F
     new-e = equal-element I _ _ (check7 .1 .1 .0);
     leads = λ q h i j. equal-bytes _ _ (every-true _ _ (every-true _ _ (verified .lead) q h) i j);
     combines = λ q h. equal-element I _ _ (every-true _ _ (verified .values-combine) q h);
-    matches = equal-bytes _ _ (sym (one-matches I m n k (f .item) (f .witness) item-size witness-size) ∙ decided .claims .all-match);
+    matches = equal-bytes _ _ (sym (one-matches I m n k (f .item) (f .witness) item-size witness-size points) ∙ decided .claims .all-match);
     holds = equal-element I _ _ (sym (one-holds I m n k (f .item) (f .witness) item-size witness-size a b c) ∙ decided .claims .all-hold);
   }

@@ -39,17 +39,17 @@ module _ (F : Field) where
 
     module _ (folds : List (Fold K)) (f : Fold K) (member : List·Memᴰ f folds) where
       -- So are those of each opening, and those of the tree over the witness's codeword.
-      opening-within : (q i : ℕ) → q < positionCount (f .shown) → i < suc (length items) → Within (openingStringsOf F items H C (f .shown) q i) (hashedFor F items H C folds)
+      opening-within : (q i : ℕ) → q < positionCount (f .shown) → i < suc (length items) → Within (openingStringsOf F items H (f .shown) q i) (hashedFor F items H C folds)
       opening-within q i hq hi a m =
           fold-within folds f member a
           (Memᴰ·append-left (treeStrings (H .digest) (C .depth) (leaves F H (codeword R (C .points) (f .witness))))
-          (mem-concatTo (positionCount (f .shown)) (λ s. concatTo (suc (length items)) (λ j. openingStringsOf F items H C (f .shown) s j)) q hq
-          (mem-concatTo (suc (length items)) (λ j. openingStringsOf F items H C (f .shown) q j) i hi m)))
+          (mem-concatTo (positionCount (f .shown)) (λ s. concatTo (suc (length items)) (λ j. openingStringsOf F items H (f .shown) s j)) q hq
+          (mem-concatTo (suc (length items)) (λ j. openingStringsOf F items H (f .shown) q j) i hi m)))
 
       tree-within : Within (treeStrings (H .digest) (C .depth) (leaves F H (codeword R (C .points) (f .witness)))) (hashedFor F items H C folds)
       tree-within a m =
           fold-within folds f member a
-          (Memᴰ·append-right (concatTo (positionCount (f .shown)) (λ q. concatTo (suc (length items)) (λ i. openingStringsOf F items H C (f .shown) q i))) m)
+          (Memᴰ·append-right (concatTo (positionCount (f .shown)) (λ q. concatTo (suc (length items)) (λ i. openingStringsOf F items H (f .shown) q i))) m)
 
     module _ (hash-laws : HashLaws K H) (M : Circuit K) (m n : ℕ) (quotient : List K) (folds : List (Fold K)) (apart : NoCollision (H .digest) (hashedFor F items H C folds)) where
       -- The new item's opened value is the witness's codeword at the position.
@@ -58,7 +58,7 @@ module _ (F : Field) where
       new-value code-laws f member passes q hq =
           hash-laws .entry-value p (valueAt F items s q (length items)) (getD (codeword R (C .points) (f .witness)) p 𝟘)
           (opening-shows-apart (H .digest) (hash-laws .digest-length) (hashedFor F items H C folds) apart (C .depth) (leaves F H (codeword R (C .points) (f .witness)))
-          (leafAt F items H C s q (length items)) p (openingAt F items s q (length items) .siblings)
+          (leafAt F items H s q (length items)) p (openingAt F items s q (length items) .siblings)
           (leaves-length F H C code-laws (f .witness)) (omega (arith, passes .inside q hq, code-laws .size)) (passes .siblings q hq (length items) (omega arith))
           (opening-within folds f member q (length items) hq (omega arith)) (tree-within folds f member)
           (passes .leads q hq (length items) (omega arith) ∙ ap (λ (t : Item K). t .root) (itemOf-new F items s) ∙ passes .matches)

@@ -24,17 +24,18 @@ use Rattle.theory.specs.Calls.{listQuotient, newWitness, newItem, openin
 use Rattle.theory.specs.Statements.{Honest, PermittedChallenge, PermittedPositions, OutputsFit, folding, witnesses, opening}
 use Rattle.theory.proofs.Passing.{Passes}
 use Rattle.theory.proofs.InstanceLaws.{InstanceLaws}
+use Rattle.theory.proofs.LentPoints.{code-laws}
 use Rattle.theory.proofs.ElementBytes.{length-written, elements-read, length-witnessPart, witness-below}
 use Rattle.theory.proofs.ItemBytes.{item-read}
 use Rattle.theory.proofs.OpeningBytes.{Siblings, length-inOrder, opening-read, opened-below}
 use Rattle.theory.proofs.Reading.{length-readItems, openingAt-readShown}
 use Rattle.theory.proofs.HonestFold.{foldedItem, honest-fold-passes}
-use Rattle.theory.proofs.HonestList.{witness-count, honest-fits, honest-below, wits-size, honest-shaped, honest-matches, honest-quotient}
+use Rattle.theory.proofs.HonestList.{witness-count, honest-fits, honest-passes, honest-below, wits-size, honest-shaped, honest-matches, honest-quotient}
 use Rattle.theory.proofs.Folding.{length-newWitness, newItem-fits, wrote-witness}
 use Rattle.theory.proofs.Opening.{opening-siblings, position-count, opening-answers, wrote-openings}
 
-module _ {I : Instance} (laws : InstanceLaws I) {m n k l t : ℕ} {a b c items wits positions quotient item wit : List ℕ} {openings : ℕ → List ℕ}
-    (honest : Honest I m n k l a b c items wits) (allowed : PermittedPositions k t positions) (outputs : OutputsFit I m n k l t quotient item wit openings)
+module _ {I : Instance} (laws : InstanceLaws I) {m n k l t : ℕ} {points a b c items wits positions quotient item wit : List ℕ} {openings : ℕ → List ℕ}
+    (honest : Honest I m n k l points a b c items wits) (allowed : PermittedPositions k t positions) (outputs : OutputsFit I m n k l t quotient item wit openings)
     (challenge : I .format .Challenge) (permitted : PermittedChallenge I l challenge) where
   open Instance I using (field as F, format as E, hash as H)
   open CommRing (F .ring) using (carrier as K)
@@ -50,7 +51,7 @@ module _ {I : Instance} (laws : InstanceLaws I) {m n k l t : ℕ} {a b c items w
   newest = newWitness I k l (E .element challenge) wits
 
   abbrev new : Item K
-  new = newItem I m n k l (E .element challenge) items wits coefficients
+  new = newItem I m n k l (E .element challenge) points items wits coefficients
 
   counted : isWitnessCount k ≡ true
   counted = witness-count m n k (honest-fits honest .sizes-fit)
@@ -58,10 +59,10 @@ module _ {I : Instance} (laws : InstanceLaws I) {m n k l t : ℕ} {a b c items w
   -- ---- the witnesses that the openings are of
 
   abbrev folded : Folded
-  folded = folding I m n k l t challenge a b c items wits positions quotient item wit openings
+  folded = folding I m n k l t challenge points a b c items wits positions quotient item wit openings
 
   abbrev opened-witness : ℕ → List ℕ
-  opened-witness i = getD (witnesses I m n k l t challenge a b c items wits positions quotient item wit openings) i []
+  opened-witness i = getD (witnesses I m n k l t challenge points a b c items wits positions quotient item wit openings) i []
 
   opened-witness-old : (i : ℕ) → i < l → opened-witness i ≡ witnessPart I k wits i
   opened-witness-old i h =
@@ -94,21 +95,21 @@ module _ {I : Instance} (laws : InstanceLaws I) {m n k l t : ℕ} {a b c items w
 
   -- ---- their openings
 
-  pub each-opening-answers : (i : ℕ) → i < suc l → opening I m n k l t challenge a b c items wits positions quotient item wit openings i .answer ≡ 0
-  each-opening-answers i h = opening-answers allowed I (opened-witness i) (openings i) counted (opened-witness-size i h) (opened-witness-below i h) (outputs .opening i h)
+  pub each-opening-answers : (i : ℕ) → i < suc l → opening I m n k l t challenge points a b c items wits positions quotient item wit openings i .answer ≡ 0
+  each-opening-answers i h = opening-answers allowed I points (opened-witness i) (openings i) counted (honest-fits honest .points-fit) (honest-passes honest .differ) (opened-witness-size i h) (opened-witness-below i h) (outputs .opening i h)
 
   -- The opening I of witness i at the position with index q.
   abbrev opened : ℕ → ℕ → Opening K
-  opened i q = openingOf I k (elements I k (opened-witness i)) (getD (numbers positions) q 0)
+  opened i q = openingOf I k points (elements I k (opened-witness i)) (getD (numbers positions) q 0)
 
   siblings : (i q : ℕ) → Siblings (depth k) (opened i q)
-  siblings i q = opening-siblings I laws k (elements I k (opened-witness i)) (getD (numbers positions) q 0)
+  siblings i q = opening-siblings I laws k points (elements I k (opened-witness i)) (getD (numbers positions) q 0)
 
   abbrev buffers : ℕ → List ℕ
-  buffers i = opening I m n k l t challenge a b c items wits positions quotient item wit openings i .openings
+  buffers i = opening I m n k l t challenge points a b c items wits positions quotient item wit openings i .openings
 
   held : (i : ℕ) → i < suc l → buffers i ≡ concatTo t (λ q. openingBytes I (opened i q))
-  held i h = wrote-openings allowed I (opened-witness i) (openings i) counted (opened-witness-size i h) (opened-witness-below i h) (outputs .opening i h)
+  held i h = wrote-openings allowed I points (opened-witness i) (openings i) counted (honest-fits honest .points-fit) (honest-passes honest .differ) (opened-witness-size i h) (opened-witness-below i h) (outputs .opening i h)
 
   abbrev ordered : List ℕ
   ordered = inOrder I (depth k) t l buffers
@@ -125,12 +126,12 @@ module _ {I : Instance} (laws : InstanceLaws I) {m n k l t : ℕ} {a b c items w
   shown = readShown I m n k l t challenge positions (itemBytes I new) ordered
 
   own : (q : ℕ) → q < positionCount shown → (i : ℕ) (w : List K) → i < suc l → elements I k (opened-witness i) ≡ w
-      → openingAt F batch shown q i ≡ openingOf I k w (positionAt shown q)
+      → openingAt F batch shown q i ≡ openingOf I k points w (positionAt shown q)
   own q h i w j e =
       let inside : q < t = omega (arith, position-count allowed) in
       openingAt-readShown I m n k l t challenge items positions (itemBytes I new) ordered q i inside j
       ∙ opening-read I laws (depth k) t l opened siblings buffers held q i inside j
-      ∙ ap (λ (v : List K). openingOf I k v (positionAt shown q)) e
+      ∙ ap (λ (v : List K). openingOf I k points v (positionAt shown q)) e
 
   -- The new witness, as a combination over the list that is read.
   abbrev combination : List K
@@ -142,21 +143,21 @@ module _ {I : Instance} (laws : InstanceLaws I) {m n k l t : ℕ} {a b c items w
   pub newest-read : elements I k (E .bytesOf newest) ≡ combination
   newest-read = elements-read I laws k newest (length-newWitness I k l (E .element challenge) wits) ∙ combined
 
-  shown-item : shown .item ≡ foldedItem F H (code I k) m n batch (readWitness I k wits) coefficients (E .element challenge)
+  shown-item : shown .item ≡ foldedItem F H (code I k points) m n batch (readWitness I k wits) coefficients (E .element challenge)
   shown-item =
-      item-read I laws (newItem-fits I laws m n k l (E .element challenge) items wits coefficients)
-      ∙ (λ i. record { e = new .e; r = new .r; x = new .x; root = witnessRoot I k (combined i) })
+      item-read I laws (newItem-fits I laws m n k l (E .element challenge) points items wits coefficients)
+      ∙ (λ i. record { e = new .e; r = new .r; x = new .x; root = witnessRoot I k points (combined i) })
 
-  pub chain-passes : Passes F H (code I k) (circuit I a b c) m n batch coefficients (record { shown = shown; witness = combination })
-  chain-passes = honest-fold-passes F H (code I k) (laws .code-laws k counted) (circuit I a b c) m n batch (readWitness I k wits) coefficients
+  pub chain-passes : Passes F H (code I k points) (circuit I a b c) m n batch coefficients (record { shown = shown; witness = combination })
+  chain-passes = honest-fold-passes F H (code I k points) (code-laws I laws k counted points (honest-fits honest .points-fit) (honest-passes honest .differ)) (circuit I a b c) m n batch (readWitness I k wits) coefficients
       (honest-shaped honest) (honest-matches honest) (honest-quotient honest laws) (E .element challenge) shown refl shown-item
       (below (4 * k) (numbers positions) (allowed .check6)) old-own new-own
     where
-      old-own : (q : ℕ) → q < positionCount shown → (i : ℕ) → i < length batch → openingAt F batch shown q i ≡ openingOf I k (readWitness I k wits i) (positionAt shown q)
+      old-own : (q : ℕ) → q < positionCount shown → (i : ℕ) → i < length batch → openingAt F batch shown q i ≡ openingOf I k points (readWitness I k wits i) (positionAt shown q)
       old-own q h i j = let inside : i < l = omega (arith, length-readItems I m n l items) in
           own q h i (readWitness I k wits i) (omega arith) (ap (elements I k) (opened-witness-old i inside))
 
-      new-own : (q : ℕ) → q < positionCount shown → openingAt F batch shown q (length batch) ≡ openingOf I k combination (positionAt shown q)
+      new-own : (q : ℕ) → q < positionCount shown → openingAt F batch shown q (length batch) ≡ openingOf I k points combination (positionAt shown q)
       new-own q h =
           ap (openingAt F batch shown q) (length-readItems I m n l items)
           ∙ own q h l combination (omega arith) (ap (elements I k) opened-witness-new ∙ newest-read)

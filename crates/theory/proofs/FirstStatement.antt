@@ -34,8 +34,8 @@ use Rattle.theory.proofs.Folding.{length-newWitness, newItem-fits, chal
 use Rattle.theory.proofs.Opening.{position-count-fits, positions-fit}
 use Rattle.theory.proofs.Chain.{each-opening-answers, ordered-size, ordered-below, newest-read, chain-passes}
 
-module _ {I : Instance} (laws : InstanceLaws I) {m n k l t : ℕ} {a b c items wits positions quotient item wit : List ℕ} {openings : ℕ → List ℕ}
-    (honest : Honest I m n k l a b c items wits) (allowed : PermittedPositions k t positions) (outputs : OutputsFit I m n k l t quotient item wit openings)
+module _ {I : Instance} (laws : InstanceLaws I) {m n k l t : ℕ} {points a b c items wits positions quotient item wit : List ℕ} {openings : ℕ → List ℕ}
+    (honest : Honest I m n k l points a b c items wits) (allowed : PermittedPositions k t positions) (outputs : OutputsFit I m n k l t quotient item wit openings)
     (challenge : I .format .Challenge) (permitted : PermittedChallenge I l challenge) where
   open Instance I using (field as F, format as E, hash as H)
   open CommRing (F .ring) using (carrier as K)
@@ -48,13 +48,13 @@ module _ {I : Instance} (laws : InstanceLaws I) {m n k l t : ℕ} {a b c items w
   coefficients = listQuotient I m n k l a b c items wits
 
   abbrev new : Item K
-  new = newItem I m n k l (E .element challenge) items wits coefficients
+  new = newItem I m n k l (E .element challenge) points items wits coefficients
 
   abbrev newest : List K
   newest = newWitness I k l (E .element challenge) wits
 
   abbrev ordered : List ℕ
-  ordered = inOrder I (depth k) t l (λ i. opening I m n k l t challenge a b c items wits positions quotient item wit openings i .openings)
+  ordered = inOrder I (depth k) t l (λ i. opening I m n k l t challenge points a b c items wits positions quotient item wit openings i .openings)
 
   abbrev shown : Shown K
   shown = readShown I m n k l t challenge positions (itemBytes I new) ordered
@@ -63,16 +63,16 @@ module _ {I : Instance} (laws : InstanceLaws I) {m n k l t : ℕ} {a b c items w
   abbrev combination : List K
   combination = newW F k (length batch) (readWitness I k wits) (E .element challenge)
 
-  passes : Passes F H (code I k) (circuit I a b c) m n batch coefficients (record { shown = shown; witness = combination })
+  passes : Passes F H (code I k points) (circuit I a b c) m n batch coefficients (record { shown = shown; witness = combination })
   passes = chain-passes laws honest allowed outputs challenge permitted
 
   -- ---- sizes and bounds
 
-  abbrev fits : ListFits I m n k l a b c items wits
+  abbrev fits : ListFits I m n k l points a b c items wits
   fits = honest-fits honest
 
   new-fits : Fits m n new
-  new-fits = newItem-fits I laws m n k l (E .element challenge) items wits coefficients
+  new-fits = newItem-fits I laws m n k l (E .element challenge) points items wits coefficients
 
   item-size : length (itemBytes I new) ≡ itemSize I m n
   item-size = length-itemBytes I laws new-fits
@@ -97,7 +97,7 @@ module _ {I : Instance} (laws : InstanceLaws I) {m n k l t : ℕ} {a b c items w
       read : elements I (quotientSize m l) (E .bytesOf coefficients) ≡ coefficients
       read = elements-read I laws (quotientSize m l) coefficients (length-listQuotient honest laws)
 
-  check8 : openingsLead I k batch shown ≡ true
+  check8 : openingsLead I batch shown ≡ true
   check8 = true-every _ _ (λ q h. true-every _ _ (λ i j. same-bytes (passes .leads q h i j)))
 
   check9 : valuesCombine I batch shown ≡ true
@@ -120,44 +120,45 @@ module _ {I : Instance} (laws : InstanceLaws I) {m n k l t : ℕ} {a b c items w
   read : elements I k (E .bytesOf newest) ≡ combination
   read = newest-read laws honest allowed outputs challenge permitted
 
-  new-list : ListPasses I m n k 1 a b c (itemBytes I new) (E .bytesOf newest)
+  new-list : ListPasses I m n k 1 points a b c (itemBytes I new) (E .bytesOf newest)
   new-list = record {
     below = honest-below honest .circuit-below & (one-below I m n k (itemBytes I new) (E .bytesOf newest) item-size witness-size ∙ item-below I laws new-fits)
         & laws .format-laws .numbers-below newest;
+    differ = honest-passes honest .differ;
     in-order = honest-passes honest .in-order;
   }
 
-  new-claims : ClaimsPass I m n k 1 a b c (itemBytes I new) (E .bytesOf newest)
+  new-claims : ClaimsPass I m n k 1 points a b c (itemBytes I new) (E .bytesOf newest)
   new-claims = record {
-    all-match = one-matches I m n k (itemBytes I new) (E .bytesOf newest) item-size witness-size ∙ same-bytes (passes .matches ∙ ap (witnessRoot I k) (sym read));
+    all-match = one-matches I m n k (itemBytes I new) (E .bytesOf newest) item-size witness-size points ∙ same-bytes (passes .matches ∙ ap (witnessRoot I k points) (sym read));
     all-hold = one-holds I m n k (itemBytes I new) (E .bytesOf newest) item-size witness-size a b c
         ∙ same-element I (ap (value (F .ring) (circuit I a b c) (shown .item .r) (shown .item .x)) read ∙ passes .holds);
   }
 
-  decided : decide I m n k a b c (itemBytes I new) (E .bytesOf newest) ≡ 0
+  decided : decide I m n k points a b c (itemBytes I new) (E .bytesOf newest) ≡ 0
   unfolding decide
-  decided = passed-answer (decideChecks I m n k a b c (itemBytes I new) (E .bytesOf newest)) (
-    fits .sizes-fit & fits .circuit-fits & item-fits & witness-fits,
-    All-append Passed (listChecks I m n k 1 a b c (itemBytes I new) (E .bytesOf newest)) (claimChecks I m n k 1 a b c (itemBytes I new) (E .bytesOf newest))
-        (passed-list I m n k 1 a b c (itemBytes I new) (E .bytesOf newest) new-list)
-        (passed-claims I m n k 1 a b c (itemBytes I new) (E .bytesOf newest) new-claims),
+  decided = passed-answer (decideChecks I m n k points a b c (itemBytes I new) (E .bytesOf newest)) (
+    fits .sizes-fit & fits .points-fit & fits .circuit-fits & item-fits & witness-fits,
+    All-append Passed (listChecks I m n k 1 points a b c (itemBytes I new) (E .bytesOf newest)) (claimChecks I m n k 1 points a b c (itemBytes I new) (E .bytesOf newest))
+        (passed-list I m n k 1 points a b c (itemBytes I new) (E .bytesOf newest) new-list)
+        (passed-claims I m n k 1 points a b c (itemBytes I new) (E .bytesOf newest) new-claims),
   )
 
   -- ---- the calls of the chain
 
-  folding-zero : folding I m n k l t challenge a b c items wits positions quotient item wit openings .answer ≡ 0
+  folding-zero : folding I m n k l t challenge points a b c items wits positions quotient item wit openings .answer ≡ 0
   folding-zero = folding-answers honest outputs challenge permitted
 
-  verifying-zero : verifying I m n k l t challenge a b c items wits positions quotient item wit openings ≡ 0
+  verifying-zero : verifying I m n k l t challenge points a b c items wits positions quotient item wit openings ≡ 0
   verifying-zero =
       ap₂ (λ (q i : List ℕ). verify I m n k l t challenge items positions q i ordered) (wrote-quotient honest outputs challenge permitted) (wrote-item honest outputs challenge permitted)
       ∙ verified
 
-  deciding-zero : deciding I m n k l t challenge a b c items wits positions quotient item wit openings ≡ 0
-  deciding-zero = ap₂ (λ (i w : List ℕ). decide I m n k a b c i w) (wrote-item honest outputs challenge permitted) (wrote-witness honest outputs challenge permitted) ∙ decided
+  deciding-zero : deciding I m n k l t challenge points a b c items wits positions quotient item wit openings ≡ 0
+  deciding-zero = ap₂ (λ (i w : List ℕ). decide I m n k points a b c i w) (wrote-item honest outputs challenge permitted) (wrote-witness honest outputs challenge permitted) ∙ decided
 
 pub first-for : (I : Instance) → InstanceLaws I → FirstStatement I
-first-for I laws m n k l t challenge a b c items wits positions quotient item wit openings honest permitted allowed outputs = (
+first-for I laws m n k l t challenge points a b c items wits positions quotient item wit openings honest permitted allowed outputs = (
   folding-zero laws honest allowed outputs challenge permitted,
   All-append (λ r. r ≡ 0) (build (suc l) answers) _
       (All-build (λ r. r ≡ 0) (suc l) answers (each-opening-answers laws honest allowed outputs challenge permitted))
@@ -165,7 +166,7 @@ first-for I laws m n k l t challenge a b c items wits positions quotient item wi
 )
   where
     answers : ℕ → ℕ
-    answers i = opening I m n k l t challenge a b c items wits positions quotient item wit openings i .answer
+    answers i = opening I m n k l t challenge points a b c items wits positions quotient item wit openings i .answer
 
 -- About the exported calls.
 pub first-statement : FirstStatement fp

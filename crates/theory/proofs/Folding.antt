@@ -33,8 +33,8 @@ module _ (I : Instance) where
   pub length-newWitness : (k l : ℕ) (challenge : K) (wits : List ℕ) → length (newWitness I k l challenge wits) ≡ k
   length-newWitness k l challenge wits = length-build k _
 
-  pub newItem-fits : InstanceLaws I → (m n k l : ℕ) (challenge : K) (items wits : List ℕ) (q : List K) → Fits m n (newItem I m n k l challenge items wits q)
-  newItem-fits laws m n k l challenge items wits q = record {
+  pub newItem-fits : InstanceLaws I → (m n k l : ℕ) (challenge : K) (points items wits : List ℕ) (q : List K) → Fits m n (newItem I m n k l challenge points items wits q)
+  newItem-fits laws m n k l challenge points items wits q = record {
     r-size = length-build m _;
     x-size = length-build n _;
     root-size = root-length (H .digest) (laws .hash-laws .digest-length) (depth k) _;
@@ -49,13 +49,13 @@ module _ (I : Instance) where
     pub challenge-permitted : E .permitted l challenge ≡ true
     challenge-permitted = and-right (E .sized challenge) (E .permitted l challenge) permitted
 
-module _ {I : Instance} {m n k l : ℕ} {a b c items wits : List ℕ} (honest : Honest I m n k l a b c items wits) where
+module _ {I : Instance} {m n k l : ℕ} {points a b c items wits : List ℕ} (honest : Honest I m n k l points a b c items wits) where
   open Instance I using (format as E)
 
   pub length-listQuotient : InstanceLaws I → length (listQuotient I m n k l a b c items wits) ≡ quotientSize m l
   length-listQuotient laws = honest-quotient honest laws .coefficients ∙ ap (quotientSize m) (length-readItems I m n l items)
 
-  honest-claims : ClaimsPass I m n k l a b c items wits
+  honest-claims : ClaimsPass I m n k l points a b c items wits
   honest-claims = record {
     all-match = true-every l _ (λ i h. same-bytes (honest .matches i h));
     all-hold = true-every l _ (λ i h. same-element I (honest .holds i h));
@@ -66,22 +66,22 @@ module _ {I : Instance} {m n k l : ℕ} {a b c items wits : List ℕ} (honest : 
   module _ {t : ℕ} {quotient item wit : List ℕ} {openings : ℕ → List ℕ} (outputs : OutputsFit I m n k l t quotient item wit openings)
       (challenge : E .Challenge) (permitted : PermittedChallenge I l challenge) where
     abbrev folded : Folded
-    folded = fold I m n k l challenge a b c items wits quotient item wit
+    folded = fold I m n k l challenge points a b c items wits quotient item wit
 
     pub folding-answers : folded .answer ≡ 0
     unfolding fold
-    folding-answers = passed-answer (foldChecks I m n k l challenge a b c items wits quotient item wit) (
+    folding-answers = passed-answer (foldChecks I m n k l challenge points a b c items wits quotient item wit) (
       challenge-sized I l challenge permitted & honest .check2 & outputs .folding,
-      All-append Passed (listChecks I m n k l a b c items wits) (check 5 (E .permitted l challenge) ∷ claimChecks I m n k l a b c items wits)
-          (passed-list I m n k l a b c items wits (honest-passes honest))
-          (challenge-permitted I l challenge permitted, passed-claims I m n k l a b c items wits honest-claims),
+      All-append Passed (listChecks I m n k l points a b c items wits) (check 5 (E .permitted l challenge) ∷ claimChecks I m n k l points a b c items wits)
+          (passed-list I m n k l points a b c items wits (honest-passes honest))
+          (challenge-permitted I l challenge permitted, passed-claims I m n k l points a b c items wits honest-claims),
     )
 
     pub wrote-quotient : folded .quotient ≡ E .bytesOf (listQuotient I m n k l a b c items wits)
     unfolding fold
     wrote-quotient = written-accepted _ quotient folding-answers
 
-    pub wrote-item : folded .item ≡ itemBytes I (newItem I m n k l (E .element challenge) items wits (listQuotient I m n k l a b c items wits))
+    pub wrote-item : folded .item ≡ itemBytes I (newItem I m n k l (E .element challenge) points items wits (listQuotient I m n k l a b c items wits))
     unfolding fold
     wrote-item = written-accepted _ item folding-answers
 

@@ -12,10 +12,9 @@ use Rattle.numbers.specs.Numbers.{numbers, bytes}
 use Rattle.numbers.proofs.Bounds.{Below, all-below}
 use Rattle.numbers.proofs.Bytes.{length-bytes, number4-bytes4, bytes4-injective, numbers-bytes}
 use Rattle.field.specs.BabyBear.{p, F, val, ofℕ, 𝟘}
-use Rattle.field.proofs.Laws.{val-lt, val-inj, ofℕ-val, below-p, ofNat-differ}
+use Rattle.field.proofs.Laws.{val-lt, val-inj, ofℕ-val, ofℕ-inj, below-p, ofNat-differ}
 use Rattle.hash.proofs.DigestLaws.{digest-length}
 use Rattle.tree.proofs.Entries.{entry-value}
-use Rattle.code.proofs.Sizes.{depth-leaves}
 use Rattle.code.proofs.Points.{points-length}
 use Rattle.code.proofs.Different.{points-distinct}
 use Rattle.theory.specs.Buffers.{numberAt}
@@ -30,7 +29,7 @@ four-bytes v = lt-trans (val-lt v) (lit< tt)
 pub values-below : (es : List F) → Below p (map val es)
 values-below es i h = rw (getD-map val es i 𝟘 0 (omega (arith, length-map es val))) (val-lt (getD es i 𝟘))
 
-below-word : (es : List F) → Below (2 ^ 32) (map val es)
+pub below-word : (es : List F) → Below (2 ^ 32) (map val es)
 below-word es i h = lt-trans (values-below es i h) (lit< tt)
 
 -- Numbers that are written before some bytes are read back.
@@ -53,6 +52,7 @@ fp-format = record {
   element-read = λ es rest j h. ap ofℕ (number-read es rest j h) ∙ ofℕ-val (getD es j 𝟘);
   element-below = λ es rest j h. lt-ltb _ p (below-p (getD es j 𝟘) (number-read es rest j h));
   numbers-below = λ es. rw (numbers-bytes (map val es) (below-word es)) (all-below p (map val es) (values-below es));
+  number-different = λ a b h l e. ofℕ-inj h l e;
 }
 
 pub fp-laws : InstanceLaws fp
@@ -62,6 +62,7 @@ fp-laws = record {
     digest-length = digest-length;
     entry-value = λ i v w e. val-inj v w (bytes4-injective (val v) (val w) (four-bytes v) (four-bytes w) (entry-value i i _ _ e));
   };
-  code-laws = λ k h. record { size = depth-leaves k h; count = points-length k; different = points-distinct k h };
+  built-in-count = points-length;
+  built-in-different = points-distinct;
   nodes-differ = ofNat-differ 57 (lit< tt);
 }

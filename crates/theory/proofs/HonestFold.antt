@@ -58,7 +58,7 @@ module _ (F : Field) where
     own-siblings q i v e =
         ap (λ (o : Opening K). length (o .siblings)) e ∙ path-length (H .digest) (leaves F H (codeword R (C .points) v)) 0 (C .depth) (positionAt s q)
 
-    own-root : (q i : ℕ) (v : List K) → q < positionCount s → openingAt F items s q i ≡ ownOpening H C v (positionAt s q) → leadsTo F items H C s q i ≡ rootOf F H C v
+    own-root : (q i : ℕ) (v : List K) → q < positionCount s → openingAt F items s q i ≡ ownOpening H C v (positionAt s q) → leadsTo F items H s q i ≡ rootOf F H C v
     own-root q i v hq e =
         ap (λ (o : Opening K). openingRoot (H .digest) (H .entry (positionAt s q) (o .value)) (positionAt s q) (o .siblings)) e
         ∙ own-leads H C code-laws v (positionAt s q) (inside q hq)
@@ -92,7 +92,7 @@ module _ (F : Field) where
       new-r = ap (λ (t : Item K). t .r) new-item ∙ ap (newR F m items) (sym at-challenge);
       new-x = ap (λ (t : Item K). t .x) new-item ∙ ap (newX F n items) (sym at-challenge);
       new-e = ap (λ (t : Item K). t .e) new-item ∙ ap (newE F items quotient) (sym at-challenge);
-      leads = λ q hq. each-index (λ i. leadsTo F items H C s q i ≡ itemOf F items s i .root)
+      leads = λ q hq. each-index (λ i. leadsTo F items H s q i ≡ itemOf F items s i .root)
           (λ i hi. own-root q i (ws i) hq (own q hq i hi) ∙ sym (matching i hi) ∙ sym (ap (λ (t : Item K). t .root) (itemOf-item F items s i hi)))
           (own-root q (length items) w hq (own-new q hq) ∙ sym (ap (λ (t : Item K). t .root) (itemOf-new F items s ∙ new-item)));
       combines = λ q hq. mixed q hq ∙ ap (mix F (length items) (λ i. valueAt F items s q i)) (sym at-challenge);

@@ -42,20 +42,20 @@ module _ (l : ℕ) (fit : itemCountFits l ≡ true) where
   pub few-items : l ≤ 8
   few-items = leb-true l 8 (and-right (leb 1 l) (leb l 8) fit)
 
-module _ {I : Instance} {m n k l : ℕ} {a b c items wits : List ℕ} (honest : Honest I m n k l a b c items wits) where
+module _ {I : Instance} {m n k l : ℕ} {points a b c items wits : List ℕ} (honest : Honest I m n k l points a b c items wits) where
   open Instance I using (field as F, format as E, hash as H)
   open CommRing (F .ring) using (carrier as K)
 
   -- ---- the checks that it passes
 
-  pub honest-fits : ListFits I m n k l a b c items wits
-  honest-fits = list-fits I m n k l a b c items wits (honest .check2)
+  pub honest-fits : ListFits I m n k l points a b c items wits
+  honest-fits = list-fits I m n k l points a b c items wits (honest .check2)
 
-  pub honest-passes : ListPasses I m n k l a b c items wits
-  honest-passes = list-passes I m n k l a b c items wits (honest .checks)
+  pub honest-passes : ListPasses I m n k l points a b c items wits
+  honest-passes = list-passes I m n k l points a b c items wits (honest .checks)
 
-  pub honest-below : ListBelow I m n k l a b c items wits
-  honest-below = list-below I m n k l a b c items wits honest-passes
+  pub honest-below : ListBelow I m n k l points a b c items wits
+  honest-below = list-below I m n k l points a b c items wits honest-passes
 
   pub wits-size : length wits ≡ l * E .size k
   wits-size = eqb-true (length wits) (l * E .size k) (honest-fits .wits-fit)
@@ -72,7 +72,7 @@ module _ {I : Instance} {m n k l : ℕ} {a b c items wits : List ℕ} (honest : 
   pub honest-shaped : Shaped F m n k batch (readWitness I k wits)
   honest-shaped = read-shaped I m n l items k wits (some-item l (honest-fits .count-fits))
 
-  pub honest-matches : (i : ℕ) → i < length batch → Matches F H (code I k) (itemAt F batch i) (readWitness I k wits i)
+  pub honest-matches : (i : ℕ) → i < length batch → Matches F H (code I k points) (itemAt F batch i) (readWitness I k wits i)
   honest-matches i h = honest .matches i (indexed i h)
 
   pub honest-quotient : InstanceLaws I → IsQuotient F (circuit I a b c) m n k batch (readWitness I k wits) (listQuotient I m n k l a b c items wits)

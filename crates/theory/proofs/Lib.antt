@@ -7,6 +7,8 @@ pub mod QuotientStated
 pub mod ItemLaws
 pub mod HonestFold
 pub mod InstanceLaws
+pub mod LentPoints
+pub mod BuiltInPoints
 pub mod FpLaws
 pub mod Passed
 pub mod Challenges

@@ -14,7 +14,7 @@ use Rattle.code.specs.Points.{isWitnessCount, depth}
 use Rattle.theory.specs.Items.{leaves}
 use Rattle.theory.specs.Instance.{Instance, codewordOf}
 use Rattle.theory.specs.Buffers.{elements, openingSize}
-use Rattle.theory.specs.Sizes.{positionCountFits, hasLength, elementsBelow}
+use Rattle.theory.specs.Sizes.{positionCountFits, hasLength, pointsFit, elementsBelow, pointsDiffer}
 use Rattle.theory.specs.Calls.{openingOf, openingsOf, openChecks, «open»}
 use Rattle.theory.specs.Statements.{PermittedPositions}
 use Rattle.theory.proofs.CheckLaws.{passed-answer, written-accepted}
@@ -22,10 +22,10 @@ use Rattle.theory.proofs.InstanceLaws.{InstanceLaws}
 use Rattle.theory.proofs.OpeningBytes.{Siblings}
 
 -- An opening has as many siblings as the tree is deep, of 32 bytes each.
-pub opening-siblings : (I : Instance) → InstanceLaws I → (k : ℕ) (w : List (I .field .ring .carrier)) (p : ℕ) → Siblings (depth k) (openingOf I k w p)
-opening-siblings I laws k w p = record {
-  count = path-length (I .hash .digest) (leaves (I .field) (I .hash) (codewordOf I k w)) 0 (depth k) p;
-  long = path-long (I .hash .digest) (laws .hash-laws .digest-length) (leaves (I .field) (I .hash) (codewordOf I k w)) 0 (depth k) p;
+pub opening-siblings : (I : Instance) → InstanceLaws I → (k : ℕ) (points : List ℕ) (w : List (I .field .ring .carrier)) (p : ℕ) → Siblings (depth k) (openingOf I k points w p)
+opening-siblings I laws k points w p = record {
+  count = path-length (I .hash .digest) (leaves (I .field) (I .hash) (codewordOf I k points w)) 0 (depth k) p;
+  long = path-long (I .hash .digest) (laws .hash-laws .digest-length) (leaves (I .field) (I .hash) (codewordOf I k points w)) 0 (depth k) p;
 }
 
 module _ {k t : ℕ} {positions : List ℕ} (permitted : PermittedPositions k t positions) where
@@ -42,13 +42,14 @@ module _ {k t : ℕ} {positions : List ℕ} (permitted : PermittedPositions k t 
 
   -- ---- the call
 
-  module _ (I : Instance) (w openings : List ℕ) (counted : isWitnessCount k ≡ true) (w-size : length w ≡ I .format .size k) (w-below : elementsBelow w ≡ true)
+  module _ (I : Instance) (points w openings : List ℕ) (counted : isWitnessCount k ≡ true) (points-fit : pointsFit k points ≡ true) (differ : pointsDiffer points ≡ true)
+      (w-size : length w ≡ I .format .size k) (w-below : elementsBelow w ≡ true)
       (openings-fit : hasLength openings (t * openingSize I (depth k)) ≡ true) where
-    pub opening-answers : «open» I k t w positions openings .answer ≡ 0
+    pub opening-answers : «open» I k t points w positions openings .answer ≡ 0
     unfolding «open»
-    opening-answers = passed-answer (openChecks I k t w positions openings)
-        (counted & position-count-fits & eq-eqb _ _ w-size & positions-fit & openings-fit, (w-below, (permitted .check6, tt)))
+    opening-answers = passed-answer (openChecks I k t points w positions openings)
+        (counted & position-count-fits & points-fit & eq-eqb _ _ w-size & positions-fit & openings-fit, (w-below, (differ, (permitted .check6, tt))))
 
-    pub wrote-openings : «open» I k t w positions openings .openings ≡ openingsOf I k t (elements I k w) (numbers positions)
+    pub wrote-openings : «open» I k t points w positions openings .openings ≡ openingsOf I k t points (elements I k w) (numbers positions)
     unfolding «open»
     wrote-openings = written-accepted _ openings opening-answers

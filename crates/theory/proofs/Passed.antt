@@ -12,7 +12,7 @@ use Rattle.theory.specs.Combination.{quotientSize}
 use Rattle.theory.specs.Checks.{check, answer}
 use Rattle.theory.specs.Instance.{Instance}
 use Rattle.theory.specs.Buffers.{elements, circuit, itemSize, readItems, openingSize}
-use Rattle.theory.specs.Sizes.{sizes, itemCountFits, positionCountFits, circuitFits, hasLength, elementsBelow, circuitBelow, itemBelow, itemsBelow, openedBelow, circuitInOrder, positionsBelow}
+use Rattle.theory.specs.Sizes.{sizes, itemCountFits, positionCountFits, circuitFits, hasLength, pointsFit, elementsBelow, circuitBelow, itemBelow, itemsBelow, openedBelow, pointsDiffer, circuitInOrder, positionsBelow}
 use Rattle.theory.specs.Calls.{encodeFits, encodeChecks, holds, castItem, castFits, castChecks, listFits, listBelow, listChecks, allMatch, allHold, claimChecks, quotientFits, quotientChecks, foldFits, foldChecks, openFits, openChecks, readShown, combines, openingsLead, valuesCombine, verifyFits, verifyChecks, decideFits, decideChecks}
 use Rattle.theory.proofs.CheckLaws.{Passed, answer-passed, passed-split}
 
@@ -21,54 +21,59 @@ module _ (I : Instance) where
 
   -- ---- encode
 
-  pub record EncodePasses (k : ℕ) (w code root : List ℕ) : Type 0 where
-    pub fits : encodeFits I k w code root ≡ true
+  pub record EncodePasses (k : ℕ) (points w code root : List ℕ) : Type 0 where
+    pub fits : encodeFits I k points w code root ≡ true
     pub below : elementsBelow w ≡ true
+    pub differ : pointsDiffer points ≡ true
 
-  pub encode-passes : (k : ℕ) (w code root : List ℕ) → answer (encodeChecks I k w code root) ≡ 0 → EncodePasses k w code root
-  encode-passes k w code root e = let t = answer-passed (encodeChecks I k w code root) (omega arith) e in record { fits = t .0; below = t .1 .0 }
+  pub encode-passes : (k : ℕ) (points w code root : List ℕ) → answer (encodeChecks I k points w code root) ≡ 0 → EncodePasses k points w code root
+  encode-passes k points w code root e = let t = answer-passed (encodeChecks I k points w code root) (omega arith) e in record { fits = t .0; below = t .1 .0; differ = t .1 .1 .0 }
 
   -- ---- open
 
-  pub record OpenPasses (k t : ℕ) (w positions openings : List ℕ) : Type 0 where
-    pub fits : openFits I k t w positions openings ≡ true
+  pub record OpenPasses (k t : ℕ) (points w positions openings : List ℕ) : Type 0 where
+    pub fits : openFits I k t points w positions openings ≡ true
     pub below : elementsBelow w ≡ true
+    pub differ : pointsDiffer points ≡ true
     pub inside : positionsBelow k positions ≡ true
 
-  pub open-passes : (k t : ℕ) (w positions openings : List ℕ) → answer (openChecks I k t w positions openings) ≡ 0 → OpenPasses k t w positions openings
-  open-passes k t w positions openings e =
-      let s = answer-passed (openChecks I k t w positions openings) (omega arith) e in record { fits = s .0; below = s .1 .0; inside = s .1 .1 .0 }
+  pub open-passes : (k t : ℕ) (points w positions openings : List ℕ) → answer (openChecks I k t points w positions openings) ≡ 0 → OpenPasses k t points w positions openings
+  open-passes k t points w positions openings e =
+      let s = answer-passed (openChecks I k t points w positions openings) (omega arith) e in record { fits = s .0; below = s .1 .0; differ = s .1 .1 .0; inside = s .1 .1 .1 .0 }
 
   -- ---- cast
 
-  pub record CastPasses (m n k : ℕ) (a b c r x w item : List ℕ) : Type 0 where
-    pub fits : castFits I m n k a b c r x w item ≡ true
+  pub record CastPasses (m n k : ℕ) (points a b c r x w item : List ℕ) : Type 0 where
+    pub fits : castFits I m n k points a b c r x w item ≡ true
     pub below : (circuitBelow a b c && elementsBelow r && elementsBelow x && elementsBelow w) ≡ true
+    pub differ : pointsDiffer points ≡ true
     pub in-order : circuitInOrder m n k a b c ≡ true
-    pub holds : holds I (circuit I a b c) (castItem I m n k r x w) (elements I k w) ≡ true
+    pub holds : holds I (circuit I a b c) (castItem I m n k points r x w) (elements I k w) ≡ true
 
-  pub cast-passes : (m n k : ℕ) (a b c r x w item : List ℕ) → answer (castChecks I m n k a b c r x w item) ≡ 0 → CastPasses m n k a b c r x w item
-  cast-passes m n k a b c r x w item e =
-      let t = answer-passed (castChecks I m n k a b c r x w item) (omega arith) e in
-      record { fits = t .0; below = t .1 .0; in-order = t .1 .1 .0; holds = t .1 .1 .1 .0 }
+  pub cast-passes : (m n k : ℕ) (points a b c r x w item : List ℕ) → answer (castChecks I m n k points a b c r x w item) ≡ 0 → CastPasses m n k points a b c r x w item
+  cast-passes m n k points a b c r x w item e =
+      let t = answer-passed (castChecks I m n k points a b c r x w item) (omega arith) e in
+      record { fits = t .0; below = t .1 .0; differ = t .1 .1 .0; in-order = t .1 .1 .1 .0; holds = t .1 .1 .1 .1 .0 }
 
   -- ---- a list: what quotient, fold and decide test alike
 
-  module _ (m n k l : ℕ) (a b c items wits : List ℕ) where
+  module _ (m n k l : ℕ) (points a b c items wits : List ℕ) where
     pub record ListFits : Type 0 where
       pub sizes-fit : sizes m n k ≡ true
       pub count-fits : itemCountFits l ≡ true
+      pub points-fit : pointsFit k points ≡ true
       pub circuit-fits : circuitFits a b c ≡ true
       pub items-fit : hasLength items (l * itemSize I m n) ≡ true
       pub wits-fit : hasLength wits (l * E .size k) ≡ true
 
-    pub list-fits : listFits I m n k l a b c items wits ≡ true → ListFits
+    pub list-fits : listFits I m n k l points a b c items wits ≡ true → ListFits
     list-fits h =
-        let t = each-true (sizes m n k) (itemCountFits l ∷ circuitFits a b c ∷ hasLength items (l * itemSize I m n) ∷ hasLength wits (l * E .size k) ∷ []) h in
-        record { sizes-fit = t .0; count-fits = t .1 .0; circuit-fits = t .1 .1 .0; items-fit = t .1 .1 .1 .0; wits-fit = t .1 .1 .1 .1 .0 }
+        let t = each-true (sizes m n k) (itemCountFits l ∷ pointsFit k points ∷ circuitFits a b c ∷ hasLength items (l * itemSize I m n) ∷ hasLength wits (l * E .size k) ∷ []) h in
+        record { sizes-fit = t .0; count-fits = t .1 .0; points-fit = t .1 .1 .0; circuit-fits = t .1 .1 .1 .0; items-fit = t .1 .1 .1 .1 .0; wits-fit = t .1 .1 .1 .1 .1 .0 }
 
     pub record ListPasses : Type 0 where
       pub below : listBelow I m n l a b c items wits ≡ true
+      pub differ : pointsDiffer points ≡ true
       pub in-order : circuitInOrder m n k a b c ≡ true
 
     -- Check 3, part by part.
@@ -82,64 +87,64 @@ module _ (I : Instance) where
         let t = each-true (circuitBelow a b c) (itemsBelow I m n l items ∷ elementsBelow wits ∷ []) (h .below) in
         record { circuit-below = t .0; items-below = t .1 .0; wits-below = t .1 .1 .0 }
 
-    of-list : All Passed (listChecks I m n k l a b c items wits) → ListPasses
-    of-list t = record { below = t .0; in-order = t .1 .0 }
+    of-list : All Passed (listChecks I m n k l points a b c items wits) → ListPasses
+    of-list t = record { below = t .0; differ = t .1 .0; in-order = t .1 .1 .0 }
 
-    pub list-passes : answer (listChecks I m n k l a b c items wits) ≡ 0 → ListPasses
-    list-passes e = of-list (answer-passed (listChecks I m n k l a b c items wits) (omega arith) e)
+    pub list-passes : answer (listChecks I m n k l points a b c items wits) ≡ 0 → ListPasses
+    list-passes e = of-list (answer-passed (listChecks I m n k l points a b c items wits) (omega arith) e)
 
-    pub passed-list : ListPasses → All Passed (listChecks I m n k l a b c items wits)
-    passed-list h = (h .below, (h .in-order, tt))
+    pub passed-list : ListPasses → All Passed (listChecks I m n k l points a b c items wits)
+    passed-list h = (h .below, (h .differ, (h .in-order, tt)))
 
     pub record ClaimsPass : Type 0 where
-      pub all-match : allMatch I m n k l items wits ≡ true
+      pub all-match : allMatch I m n k l points items wits ≡ true
       pub all-hold : allHold I m n k l a b c items wits ≡ true
 
-    of-claims : All Passed (claimChecks I m n k l a b c items wits) → ClaimsPass
+    of-claims : All Passed (claimChecks I m n k l points a b c items wits) → ClaimsPass
     of-claims t = record { all-match = t .0; all-hold = t .1 .0 }
 
-    pub passed-claims : ClaimsPass → All Passed (claimChecks I m n k l a b c items wits)
+    pub passed-claims : ClaimsPass → All Passed (claimChecks I m n k l points a b c items wits)
     passed-claims h = (h .all-match, (h .all-hold, tt))
 
     -- ---- quotient
 
     pub record QuotientPasses (q : List ℕ) : Type 0 where
-      pub fits : quotientFits I m n k l a b c items wits q ≡ true
+      pub fits : quotientFits I m n k l points a b c items wits q ≡ true
       pub list : ListPasses
       pub claims : ClaimsPass
 
-    pub quotient-passes : (q : List ℕ) → answer (quotientChecks I m n k l a b c items wits q) ≡ 0 → QuotientPasses q
+    pub quotient-passes : (q : List ℕ) → answer (quotientChecks I m n k l points a b c items wits q) ≡ 0 → QuotientPasses q
     quotient-passes q e =
-        let t = answer-passed (quotientChecks I m n k l a b c items wits q) (omega arith) e in
-        let s = passed-split (listChecks I m n k l a b c items wits) (claimChecks I m n k l a b c items wits) (t .1) in
+        let t = answer-passed (quotientChecks I m n k l points a b c items wits q) (omega arith) e in
+        let s = passed-split (listChecks I m n k l points a b c items wits) (claimChecks I m n k l points a b c items wits) (t .1) in
         record { fits = t .0; list = of-list (s .0); claims = of-claims (s .1) }
 
     -- ---- fold
 
     pub record FoldPasses (challenge : E .Challenge) (q item wit : List ℕ) : Type 0 where
-      pub fits : foldFits I m n k l challenge a b c items wits q item wit ≡ true
+      pub fits : foldFits I m n k l challenge points a b c items wits q item wit ≡ true
       pub list : ListPasses
       pub permitted : E .permitted l challenge ≡ true
       pub claims : ClaimsPass
 
-    pub fold-passes : (challenge : E .Challenge) (q item wit : List ℕ) → answer (foldChecks I m n k l challenge a b c items wits q item wit) ≡ 0 → FoldPasses challenge q item wit
+    pub fold-passes : (challenge : E .Challenge) (q item wit : List ℕ) → answer (foldChecks I m n k l challenge points a b c items wits q item wit) ≡ 0 → FoldPasses challenge q item wit
     fold-passes challenge q item wit e =
-        let t = answer-passed (foldChecks I m n k l challenge a b c items wits q item wit) (omega arith) e in
-        let s = passed-split (listChecks I m n k l a b c items wits) (check 5 (E .permitted l challenge) ∷ claimChecks I m n k l a b c items wits) (t .1) in
+        let t = answer-passed (foldChecks I m n k l challenge points a b c items wits q item wit) (omega arith) e in
+        let s = passed-split (listChecks I m n k l points a b c items wits) (check 5 (E .permitted l challenge) ∷ claimChecks I m n k l points a b c items wits) (t .1) in
         record { fits = t .0; list = of-list (s .0); permitted = s .1 .0; claims = of-claims (s .1 .1) }
 
   -- ---- decide
 
-  pub record DecidePasses (m n k : ℕ) (a b c item wit : List ℕ) : Type 0 where
-    pub fits : decideFits I m n k a b c item wit ≡ true
-    pub list : ListPasses m n k 1 a b c item wit
-    pub claims : ClaimsPass m n k 1 a b c item wit
+  pub record DecidePasses (m n k : ℕ) (points a b c item wit : List ℕ) : Type 0 where
+    pub fits : decideFits I m n k points a b c item wit ≡ true
+    pub list : ListPasses m n k 1 points a b c item wit
+    pub claims : ClaimsPass m n k 1 points a b c item wit
 
-  pub decide-passes : (m n k : ℕ) (a b c item wit : List ℕ) → answer (decideChecks I m n k a b c item wit) ≡ 0 → DecidePasses m n k a b c item wit
-  decide-passes m n k a b c item wit e =
-      let t = answer-passed (decideChecks I m n k a b c item wit) (omega arith) e in
-      let s = passed-split (listChecks I m n k 1 a b c item wit) (claimChecks I m n k 1 a b c item wit) (t .1) in
-      record { fits = t .0; list = of-list m n k 1 a b c item wit (s .0); claims = of-claims m n k 1 a b c item wit (s .1) }
+  pub decide-passes : (m n k : ℕ) (points a b c item wit : List ℕ) → answer (decideChecks I m n k points a b c item wit) ≡ 0 → DecidePasses m n k points a b c item wit
+  decide-passes m n k points a b c item wit e =
+      let t = answer-passed (decideChecks I m n k points a b c item wit) (omega arith) e in
+      let s = passed-split (listChecks I m n k 1 points a b c item wit) (claimChecks I m n k 1 points a b c item wit) (t .1) in
+      record { fits = t .0; list = of-list m n k 1 points a b c item wit (s .0); claims = of-claims m n k 1 points a b c item wit (s .1) }
 
   -- ---- verify
 
@@ -178,7 +183,7 @@ module _ (I : Instance) where
       pub permitted : E .permitted l challenge ≡ true
       pub inside : positionsBelow k positions ≡ true
       pub combine : combines I m n (readItems I m n l items) (elements I (quotientSize m l) q) (readShown I m n k l t challenge positions item openings) ≡ true
-      pub lead : openingsLead I k (readItems I m n l items) (readShown I m n k l t challenge positions item openings) ≡ true
+      pub lead : openingsLead I (readItems I m n l items) (readShown I m n k l t challenge positions item openings) ≡ true
       pub values-combine : valuesCombine I (readItems I m n l items) (readShown I m n k l t challenge positions item openings) ≡ true
 
     pub verify-passes : answer (verifyChecks I m n k l t challenge items positions q item openings) ≡ 0 → VerifyPasses

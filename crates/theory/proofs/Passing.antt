@@ -38,7 +38,7 @@ module _ (F : Field) where
       pub new-r : f .shown .item .r ≡ newR F m items (f .shown .challenge)
       pub new-x : f .shown .item .x ≡ newX F n items (f .shown .challenge)
       pub new-e : f .shown .item .e ≡ newE F items quotient (f .shown .challenge)
-      pub leads : (q : ℕ) → q < positionCount (f .shown) → (i : ℕ) → i < suc (length items) → leadsTo F items H C (f .shown) q i ≡ itemOf F items (f .shown) i .root
+      pub leads : (q : ℕ) → q < positionCount (f .shown) → (i : ℕ) → i < suc (length items) → leadsTo F items H (f .shown) q i ≡ itemOf F items (f .shown) i .root
       pub combines : (q : ℕ) → q < positionCount (f .shown)
           → valueAt F items (f .shown) q (length items) ≡ mix F (length items) (λ i. valueAt F items (f .shown) q i) (f .shown .challenge)
       pub matches : Matches F H C (f .shown .item) (f .witness)

@@ -57,8 +57,8 @@ module _ (I : Instance) where
     pub one-below : itemsBelow I m n 1 item ≡ itemBelow I m n item
     one-below = every-one _ ∙ ap (itemBelow I m n) (first-part item (itemSize I m n) item-size)
 
-    pub one-matches : allMatch I m n k 1 item wit ≡ matches I k (readItem I m n item) (elements I k wit)
-    one-matches = every-one _ ∙ ap₂ (matches I k) one-item one-witness
+    pub one-matches : (points : List ℕ) → allMatch I m n k 1 points item wit ≡ matches I k points (readItem I m n item) (elements I k wit)
+    one-matches points = every-one _ ∙ ap₂ (matches I k points) one-item one-witness
 
     pub one-holds : (a b c : List ℕ) → allHold I m n k 1 a b c item wit ≡ holds I (circuit I a b c) (readItem I m n item) (elements I k wit)
     one-holds a b c = every-one _ ∙ ap₂ (holds I (circuit I a b c)) one-item one-witness

@@ -25,11 +25,11 @@ use Rattle.theory.proofs.InstanceLaws.{InstanceLaws}
 use Rattle.theory.proofs.FpLaws.{fp-laws}
 use Rattle.theory.proofs.Equality.{same-element}
 use Rattle.theory.proofs.SelectionLaws.{select-passes, some-member, all-among, once-distinct, once-member}
-use Rattle.theory.proofs.Accepted.{counted, at-most-eight, passes}
+use Rattle.theory.proofs.Accepted.{accepted-code, at-most-eight, passes}
 use Rattle.theory.proofs.Reading.{length-readItems}
 use Rattle.theory.proofs.Extraction.{second-for-passing}
 
-module _ (I : Instance) (m n k l : ℕ) (a b c items quotient : List ℕ) where
+module _ (I : Instance) (m n k l : ℕ) (points a b c items quotient : List ℕ) where
   open Instance I using (field as F, format as E, hash as H)
   open CommRing (F .ring) using (carrier as K)
 
@@ -40,18 +40,18 @@ module _ (I : Instance) (m n k l : ℕ) (a b c items quotient : List ℕ) where
   coefficients = elements I (quotientSize m l) quotient
 
   abbrev read : FoldBytes I → Fold K
-  read = readFold I m n k l a b c items quotient
+  read = readFold I m n k l points a b c items quotient
 
   abbrev accepted : FoldBytes I → Bool
-  accepted = isAccepted I m n k l a b c items quotient
+  accepted = isAccepted I m n k l points a b c items quotient
 
   -- The element of a fold's challenge.
   abbrev challengeOf : FoldBytes I → K
   challengeOf f = E .element (f .challenge)
 
   -- What holds of the folds as they are read holds of their bytes.
-  each-holds : (ps : List ℕ) (folds : List (FoldBytes I)) → EachHoldsOver F (code I k) (circuit I a b c) batch ps (map read folds)
-      → EachHolds I m n k l a b c items quotient ps folds
+  each-holds : (ps : List ℕ) (folds : List (FoldBytes I)) → EachHoldsOver F (code I k points) (circuit I a b c) batch ps (map read folds)
+      → EachHolds I m n k l points a b c items quotient ps folds
   each-holds ps folds h = record {
     values = h .values;
     shows = λ f s i q j. h .shows (read f) (Memᴰ·map read s) i q (inside j);
@@ -68,10 +68,10 @@ module _ (I : Instance) (m n k l : ℕ) (a b c items quotient : List ℕ) where
   module _ (folds : List (FoldBytes I)) (ps : List ℕ) where
     -- The folds that are accepted and open the positions, and their different challenges.
     abbrev picked : List (FoldBytes I)
-    picked = chosen I m n k l a b c items quotient ps folds
+    picked = chosen I m n k l points a b c items quotient ps folds
 
     abbrev alphas : List K
-    alphas = challenges I m n k l a b c items quotient picked
+    alphas = challenges I m n k l points a b c items quotient picked
 
     tests : (f : FoldBytes I) → List·Memᴰ f picked → (accepted f && allAmong ps (numbers (f .positions))) ≡ true
     tests f s = select-passes (λ g. accepted g && allAmong ps (numbers (g .positions))) folds f s .1
@@ -84,11 +84,11 @@ module _ (I : Instance) (m n k l : ℕ) (a b c items quotient : List ℕ) where
 
     -- As they are read, they pass and open the positions.
     abbrev Good : Fold K → Type 0
-    Good g = Passes F H (code I k) (circuit I a b c) m n batch coefficients g × All (Opens (g .shown)) ps
+    Good g = Passes F H (code I k points) (circuit I a b c) m n batch coefficients g × All (Opens (g .shown)) ps
 
     good : (g : Fold K) → List·Memᴰ g (map read picked) → Good g
     good g s = let t = Memᴰ·of-map read picked s in
-        subst Good (t .2) (passes I m n k l a b c items quotient (t .0) (is-accepted (t .0) (t .1)), opens (t .0) (t .1))
+        subst Good (t .2) (passes I m n k l points a b c items quotient (t .0) (is-accepted (t .0) (t .1)), opens (t .0) (t .1))
 
     -- A challenge is that of a chosen fold.
     of-fold : (x : K) → List·Memᴰ x alphas → (f : FoldBytes I) × List·Memᴰ f picked × (challengeOf f ≡ x)
@@ -102,32 +102,32 @@ module _ (I : Instance) (m n k l : ℕ) (a b c items quotient : List ℕ) where
 
 -- Some fold is chosen, so the sizes are in range.
 pub second-for : (I : Instance) → InstanceLaws I → SecondStatement I
-second-for I laws m n k l a b c items quotient folds ps size distinct many =
-    ⊎-elim inl (λ h. inr (each-holds I m n k l a b c items quotient ps kept h))
-    (second-for-passing F (I .hash) (code I k) (laws .hash-laws) (laws .code-laws k (counted I m n k l a b c items quotient f passed))
+second-for I laws m n k l points a b c items quotient folds ps size distinct many =
+    ⊎-elim inl (λ h. inr (each-holds I m n k l points a b c items quotient ps kept h))
+    (second-for-passing F (I .hash) (code I k points) (laws .hash-laws) (accepted-code I m n k l points a b c items quotient f passed laws)
     (circuit I a b c) m n (readItems I m n l items) (elements I (quotientSize m l) quotient) apart ps size distinct
-    (map (readFold I m n k l a b c items quotient) kept) (good I m n k l a b c items quotient folds ps)
-    (challenges I m n k l a b c items quotient kept) (different I m n k l a b c items quotient folds ps) (taken I m n k l a b c items quotient folds ps) enough)
+    (map (readFold I m n k l points a b c items quotient) kept) (good I m n k l points a b c items quotient folds ps)
+    (challenges I m n k l points a b c items quotient kept) (different I m n k l points a b c items quotient folds ps) (taken I m n k l points a b c items quotient folds ps) enough)
   where
     F : Field
     F = I .field
 
     kept : List (FoldBytes I)
-    kept = chosen I m n k l a b c items quotient ps folds
+    kept = chosen I m n k l points a b c items quotient ps folds
 
-    first : (x : F .ring .carrier) × List·Memᴰ x (challenges I m n k l a b c items quotient kept)
-    first = some-member (challenges I m n k l a b c items quotient kept) ((l - 1) * (m + 2)) many
+    first : (x : F .ring .carrier) × List·Memᴰ x (challenges I m n k l points a b c items quotient kept)
+    first = some-member (challenges I m n k l points a b c items quotient kept) ((l - 1) * (m + 2)) many
 
     f : FoldBytes I
-    f = of-fold I m n k l a b c items quotient folds ps (first .0) (first .1) .0
+    f = of-fold I m n k l points a b c items quotient folds ps (first .0) (first .1) .0
 
-    passed : isAccepted I m n k l a b c items quotient f ≡ true
-    passed = is-accepted I m n k l a b c items quotient folds ps f (of-fold I m n k l a b c items quotient folds ps (first .0) (first .1) .1)
+    passed : isAccepted I m n k l points a b c items quotient f ≡ true
+    passed = is-accepted I m n k l points a b c items quotient folds ps f (of-fold I m n k l points a b c items quotient folds ps (first .0) (first .1) .1)
 
     apart : Differ (length (readItems I m n l items)) (node F)
-    apart i j h p = laws .nodes-differ i j h (omega (arith, length-readItems I m n l items, at-most-eight I m n k l a b c items quotient f passed))
+    apart i j h p = laws .nodes-differ i j h (omega (arith, length-readItems I m n l items, at-most-eight I m n k l points a b c items quotient f passed))
 
-    enough : (length (readItems I m n l items) - 1) * (m + 2) < length (challenges I m n k l a b c items quotient kept)
+    enough : (length (readItems I m n l items) - 1) * (m + 2) < length (challenges I m n k l points a b c items quotient kept)
     enough = rw (length-readItems I m n l items) many
 
 -- About the exported calls.

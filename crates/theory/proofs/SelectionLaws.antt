@@ -1,6 +1,6 @@
 -- The laws of selections: members that pass a test, members by a test of equality, and the different members of a list.
-use mathlib.Core.Path.{_≡_, refl, sym, ap, subst, _∙_}
-use mathlib.Core.Logic.{_≢_, ⊎-elim}
+use mathlib.Core.Path.{_≡_, refl, sym, subst}
+use mathlib.Core.Logic.{⊎-elim}
 use mathlib.Core.Bool.{Bool, true, false, not, _||_, false≢true}
 use mathlib.Core.List.{List, [], _∷_, List·Memᴰ, List·Memᴰ·head, List·Memᴰ·tail, List·Memᴰ·not-nil, List·Memᴰ·cases-cons}
 use Prim.Native.Nat.{ℕ, _<_}
@@ -9,8 +9,10 @@ use borrow.Author.Tests.{eqb-true}
 use lib.Dec.{eqb}
 use lib.ListN.{length}
 use Rattle.algebra.specs.Lists.{All, Distinct}
+use Rattle.numbers.specs.Equality.{among}
+use Rattle.numbers.proofs.Differences.{absent}
 use Rattle.numbers.proofs.Tests.{and-left, and-right}
-use Rattle.theory.specs.Selection.{keepIf, select, among, allAmong, once}
+use Rattle.theory.specs.Selection.{keepIf, select, allAmong, once}
 
 -- ---- the members that pass a test
 
@@ -41,21 +43,13 @@ module _ {A : Type 0} (same : A → A → Bool) (equal : (a b : A) → same a b 
       go false e ih s = List·Memᴰ·tail (ih s)
 
 module _ {A : Type 0} (same : A → A → Bool) (reflects : (a : A) → same a a ≡ true) where
-  absent : (a : A) (l : List A) → among same a l ≡ false → All (λ b. b ≢ a) l
-  absent a [] h = tt
-  absent a (b ∷ l) h = go (same a b) refl (absent a l) h
-    where
-      go : (t : Bool) → same a b ≡ t → (among same a l ≡ false → All (λ b. b ≢ a) l) → t || among same a l ≡ false → (b ≢ a) × All (λ b. b ≢ a) l
-      go true e ih s = absurd (false≢true (sym s))
-      go false e ih s = ((λ q. false≢true (sym e ∙ ap (same a) q ∙ reflects a)), ih s)
-
   pub once-distinct : (l : List A) → Distinct (once same l)
   once-distinct [] = tt
   once-distinct (a ∷ l) = go (among same a (once same l)) refl (once-distinct l)
     where
       go : (t : Bool) → among same a (once same l) ≡ t → Distinct (once same l) → Distinct (keepIf (not t) a (once same l))
       go true e ih = ih
-      go false e ih = (absent a (once same l) e, ih)
+      go false e ih = (absent same reflects a (once same l) e, ih)
 
 pub once-member : {A : Type 0} (same : A → A → Bool) (l : List A) (a : A) → List·Memᴰ a (once same l) → List·Memᴰ a l
 once-member same [] a h = h

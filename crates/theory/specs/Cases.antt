@@ -51,7 +51,7 @@ quotient = quotientOf babyBear product 0 1 2 good witness
 
 -- A list of one item, with two rows, whose root is that of its witness.
 abbrev pub one : Item F
-one = record { e = ofℕ 5; r = listed (7 ∷ []); x = listed (6 ∷ []); root = witnessRoot 2 (witness 0) }
+one = record { e = ofℕ 5; r = listed (7 ∷ []); x = listed (6 ∷ []); root = witnessRoot 2 [] (witness 0) }
 
 abbrev pub single : List (Item F)
 single = one ∷ []
@@ -83,9 +83,9 @@ cases =
     -- At 2 the value is e, and the new item holds; at 3 it differs.
     ∷ case 8 (newXW bad 2 ++ newValue bad 2 ++ newEFrom (listed (3 ∷ [])) bad 2) (36 ∷ 6 ∷ 7 ∷ 6 ∷ 6 ∷ [])
     ∷ case 8 (newValue bad 3 ++ newEFrom (listed (3 ∷ [])) bad 3) (21 ∷ 18 ∷ [])
-    ∷ case 9 (getD (codewordOf 2 (witness 0)) 0 𝟘 ∷ getD (codewordOf 2 (witness 0)) 4 𝟘 ∷ []) (5 ∷ 2013265920 ∷ [])
+    ∷ case 9 (getD (codewordOf 2 [] (witness 0)) 0 𝟘 ∷ getD (codewordOf 2 [] (witness 0)) 4 𝟘 ∷ []) (5 ∷ 2013265920 ∷ [])
     -- No coefficients; e, r, x and w of the item come back, and so does its root: the new item's is that of the new witness.
     ∷ case 10 singleQuotient []
     ∷ case 10 (newEFrom singleQuotient single 1 ++ newR babyBear 1 single (ofℕ 1) ++ newX babyBear 1 single (ofℕ 1) ++ newW babyBear 2 1 witness (ofℕ 1)) (5 ∷ 7 ∷ 6 ∷ 2 ∷ 3 ∷ [])
-    ∷ record { number = 10; computed = witnessRoot 2 (newW babyBear 2 1 witness (ofℕ 1)); expected = one .root }
+    ∷ record { number = 10; computed = witnessRoot 2 [] (newW babyBear 2 1 witness (ofℕ 1)); expected = one .root }
     ∷ []

@@ -64,7 +64,7 @@ module _ (F : Field) where
       pub position : positionAt s index ≡ p
       pub value : valueAt s index i ≡ v
 
-    module _ (H : Hash K) (C : Code K) where
+    module _ (H : Hash K) where
       -- The data of the leaf that the opening of item i at the position with index q shows.
       abbrev pub leafAt : Shown K → ℕ → ℕ → List ℕ
       leafAt s q i = H .entry (positionAt s q) (valueAt s q i)
@@ -76,14 +76,15 @@ module _ (F : Field) where
       abbrev pub openingStringsOf : Shown K → ℕ → ℕ → List (List ℕ)
       openingStringsOf s q i = openingStrings (H .digest) (leafAt s q i) (positionAt s q) (openingAt s q i .siblings)
 
-      -- The byte strings hashed for a fold: those of each of its openings;
-      -- and all leaves and inner nodes of the tree over its witness's codeword.
-      abbrev pub hashed : Fold K → List (List ℕ)
-      hashed f =
-          concatTo (positionCount (f .shown)) (λ q. concatTo (suc (length items)) (λ i. openingStringsOf (f .shown) q i))
-          ++ treeStrings (H .digest) (C .depth) (leaves F H (codeword (F .ring) (C .points) (f .witness)))
+      module _ (C : Code K) where
+        -- The byte strings hashed for a fold: those of each of its openings;
+        -- and all leaves and inner nodes of the tree over its witness's codeword.
+        abbrev pub hashed : Fold K → List (List ℕ)
+        hashed f =
+            concatTo (positionCount (f .shown)) (λ q. concatTo (suc (length items)) (λ i. openingStringsOf (f .shown) q i))
+            ++ treeStrings (H .digest) (C .depth) (leaves F H (codeword (F .ring) (C .points) (f .witness)))
 
-      -- The byte strings hashed for the folds of a list.
-      abbrev pub hashedFor : List (Fold K) → List (List ℕ)
-      hashedFor [] = []
-      hashedFor (f ∷ folds) = hashed f ++ hashedFor folds
+        -- The byte strings hashed for the folds of a list.
+        abbrev pub hashedFor : List (Fold K) → List (List ℕ)
+        hashedFor [] = []
+        hashedFor (f ∷ folds) = hashed f ++ hashedFor folds

@@ -41,7 +41,7 @@ abbrev pub sha : Hash F
 sha = record { digest = digest; entry = λ i v. entry i (bytes4 (val v)) }
 
 abbrev pub fp : Instance
-fp = record { field = babyBear; format = fpFormat; hash = sha; points = points }
+fp = record { field = babyBear; format = fpFormat; hash = sha; builtInPoints = points }
 
 -- ---- names for this instance
 
@@ -52,10 +52,13 @@ elementAt = fpFormat .at
 abbrev pub elementBytes : List F → List ℕ
 elementBytes = fpFormat .bytesOf
 
-abbrev pub codewordOf : ℕ → List F → List F
+abbrev pub pointsOf : ℕ → List ℕ → List F
+pointsOf = Rattle.theory.specs.Instance.pointsOf fp
+
+abbrev pub codewordOf : ℕ → List ℕ → List F → List F
 codewordOf = Rattle.theory.specs.Instance.codewordOf fp
 
-abbrev pub witnessRoot : ℕ → List F → List ℕ
+abbrev pub witnessRoot : ℕ → List ℕ → List F → List ℕ
 witnessRoot = Rattle.theory.specs.Instance.witnessRoot fp
 
 abbrev pub elements : ℕ → List ℕ → List F
@@ -112,94 +115,94 @@ sameElement = Rattle.theory.specs.Instance.sameElement fp
 abbrev pub sameElements : List F → List F → Bool
 sameElements = Rattle.theory.specs.Instance.sameElements fp
 
-abbrev pub encodeFits : ℕ → List ℕ → List ℕ → List ℕ → Bool
+abbrev pub encodeFits : ℕ → List ℕ → List ℕ → List ℕ → List ℕ → Bool
 encodeFits = Rattle.theory.specs.Calls.encodeFits fp
 
-abbrev pub encodeChecks : ℕ → List ℕ → List ℕ → List ℕ → List Check
+abbrev pub encodeChecks : ℕ → List ℕ → List ℕ → List ℕ → List ℕ → List Check
 encodeChecks = Rattle.theory.specs.Calls.encodeChecks fp
 
-abbrev pub encode : ℕ → List ℕ → List ℕ → List ℕ → Encoded
+abbrev pub encode : ℕ → List ℕ → List ℕ → List ℕ → List ℕ → Encoded
 encode = Rattle.theory.specs.Calls.encode fp
 
-abbrev pub matches : ℕ → Item F → List F → Bool
+abbrev pub matches : ℕ → List ℕ → Item F → List F → Bool
 matches = Rattle.theory.specs.Calls.matches fp
 
 abbrev pub holds : Circuit F → Item F → List F → Bool
 holds = Rattle.theory.specs.Calls.holds fp
 
-abbrev pub castItem : ℕ → ℕ → ℕ → List ℕ → List ℕ → List ℕ → Item F
+abbrev pub castItem : ℕ → ℕ → ℕ → List ℕ → List ℕ → List ℕ → List ℕ → Item F
 castItem = Rattle.theory.specs.Calls.castItem fp
 
-abbrev pub castFits : ℕ → ℕ → ℕ → List ℕ → List ℕ → List ℕ → List ℕ → List ℕ → List ℕ → List ℕ → Bool
+abbrev pub castFits : ℕ → ℕ → ℕ → List ℕ → List ℕ → List ℕ → List ℕ → List ℕ → List ℕ → List ℕ → List ℕ → Bool
 castFits = Rattle.theory.specs.Calls.castFits fp
 
-abbrev pub castChecks : ℕ → ℕ → ℕ → List ℕ → List ℕ → List ℕ → List ℕ → List ℕ → List ℕ → List ℕ → List Check
+abbrev pub castChecks : ℕ → ℕ → ℕ → List ℕ → List ℕ → List ℕ → List ℕ → List ℕ → List ℕ → List ℕ → List ℕ → List Check
 castChecks = Rattle.theory.specs.Calls.castChecks fp
 
-abbrev pub cast : ℕ → ℕ → ℕ → List ℕ → List ℕ → List ℕ → List ℕ → List ℕ → List ℕ → List ℕ → Cast
+abbrev pub cast : ℕ → ℕ → ℕ → List ℕ → List ℕ → List ℕ → List ℕ → List ℕ → List ℕ → List ℕ → List ℕ → Cast
 cast = Rattle.theory.specs.Calls.cast fp
 
-abbrev pub listFits : ℕ → ℕ → ℕ → ℕ → List ℕ → List ℕ → List ℕ → List ℕ → List ℕ → Bool
+abbrev pub listFits : ℕ → ℕ → ℕ → ℕ → List ℕ → List ℕ → List ℕ → List ℕ → List ℕ → List ℕ → Bool
 listFits = Rattle.theory.specs.Calls.listFits fp
 
 abbrev pub listBelow : ℕ → ℕ → ℕ → List ℕ → List ℕ → List ℕ → List ℕ → List ℕ → Bool
 listBelow = Rattle.theory.specs.Calls.listBelow fp
 
-abbrev pub listChecks : ℕ → ℕ → ℕ → ℕ → List ℕ → List ℕ → List ℕ → List ℕ → List ℕ → List Check
+abbrev pub listChecks : ℕ → ℕ → ℕ → ℕ → List ℕ → List ℕ → List ℕ → List ℕ → List ℕ → List ℕ → List Check
 listChecks = Rattle.theory.specs.Calls.listChecks fp
 
-abbrev pub allMatch : ℕ → ℕ → ℕ → ℕ → List ℕ → List ℕ → Bool
+abbrev pub allMatch : ℕ → ℕ → ℕ → ℕ → List ℕ → List ℕ → List ℕ → Bool
 allMatch = Rattle.theory.specs.Calls.allMatch fp
 
 abbrev pub allHold : ℕ → ℕ → ℕ → ℕ → List ℕ → List ℕ → List ℕ → List ℕ → List ℕ → Bool
 allHold = Rattle.theory.specs.Calls.allHold fp
 
-abbrev pub claimChecks : ℕ → ℕ → ℕ → ℕ → List ℕ → List ℕ → List ℕ → List ℕ → List ℕ → List Check
+abbrev pub claimChecks : ℕ → ℕ → ℕ → ℕ → List ℕ → List ℕ → List ℕ → List ℕ → List ℕ → List ℕ → List Check
 claimChecks = Rattle.theory.specs.Calls.claimChecks fp
 
 abbrev pub listQuotient : ℕ → ℕ → ℕ → ℕ → List ℕ → List ℕ → List ℕ → List ℕ → List ℕ → List F
 listQuotient = Rattle.theory.specs.Calls.listQuotient fp
 
-abbrev pub quotientFits : ℕ → ℕ → ℕ → ℕ → List ℕ → List ℕ → List ℕ → List ℕ → List ℕ → List ℕ → Bool
+abbrev pub quotientFits : ℕ → ℕ → ℕ → ℕ → List ℕ → List ℕ → List ℕ → List ℕ → List ℕ → List ℕ → List ℕ → Bool
 quotientFits = Rattle.theory.specs.Calls.quotientFits fp
 
-abbrev pub quotientChecks : ℕ → ℕ → ℕ → ℕ → List ℕ → List ℕ → List ℕ → List ℕ → List ℕ → List ℕ → List Check
+abbrev pub quotientChecks : ℕ → ℕ → ℕ → ℕ → List ℕ → List ℕ → List ℕ → List ℕ → List ℕ → List ℕ → List ℕ → List Check
 quotientChecks = Rattle.theory.specs.Calls.quotientChecks fp
 
-abbrev pub quotient : ℕ → ℕ → ℕ → ℕ → List ℕ → List ℕ → List ℕ → List ℕ → List ℕ → List ℕ → Quotient
+abbrev pub quotient : ℕ → ℕ → ℕ → ℕ → List ℕ → List ℕ → List ℕ → List ℕ → List ℕ → List ℕ → List ℕ → Quotient
 quotient = Rattle.theory.specs.Calls.quotient fp
 
 abbrev pub newWitness : ℕ → ℕ → F → List ℕ → List F
 newWitness = Rattle.theory.specs.Calls.newWitness fp
 
-abbrev pub newItem : ℕ → ℕ → ℕ → ℕ → F → List ℕ → List ℕ → List F → Item F
+abbrev pub newItem : ℕ → ℕ → ℕ → ℕ → F → List ℕ → List ℕ → List ℕ → List F → Item F
 newItem = Rattle.theory.specs.Calls.newItem fp
 
 abbrev pub foldOutputsFit : ℕ → ℕ → ℕ → ℕ → List ℕ → List ℕ → List ℕ → Bool
 foldOutputsFit = Rattle.theory.specs.Calls.foldOutputsFit fp
 
-abbrev pub foldFits : ℕ → ℕ → ℕ → ℕ → ℕ → List ℕ → List ℕ → List ℕ → List ℕ → List ℕ → List ℕ → List ℕ → List ℕ → Bool
+abbrev pub foldFits : ℕ → ℕ → ℕ → ℕ → ℕ → List ℕ → List ℕ → List ℕ → List ℕ → List ℕ → List ℕ → List ℕ → List ℕ → List ℕ → Bool
 foldFits = Rattle.theory.specs.Calls.foldFits fp
 
-abbrev pub foldChecks : ℕ → ℕ → ℕ → ℕ → ℕ → List ℕ → List ℕ → List ℕ → List ℕ → List ℕ → List ℕ → List ℕ → List ℕ → List Check
+abbrev pub foldChecks : ℕ → ℕ → ℕ → ℕ → ℕ → List ℕ → List ℕ → List ℕ → List ℕ → List ℕ → List ℕ → List ℕ → List ℕ → List ℕ → List Check
 foldChecks = Rattle.theory.specs.Calls.foldChecks fp
 
-abbrev pub fold : ℕ → ℕ → ℕ → ℕ → ℕ → List ℕ → List ℕ → List ℕ → List ℕ → List ℕ → List ℕ → List ℕ → List ℕ → Folded
+abbrev pub fold : ℕ → ℕ → ℕ → ℕ → ℕ → List ℕ → List ℕ → List ℕ → List ℕ → List ℕ → List ℕ → List ℕ → List ℕ → List ℕ → Folded
 fold = Rattle.theory.specs.Calls.fold fp
 
-abbrev pub openingOf : ℕ → List F → ℕ → Opening F
+abbrev pub openingOf : ℕ → List ℕ → List F → ℕ → Opening F
 openingOf = Rattle.theory.specs.Calls.openingOf fp
 
-abbrev pub openingsOf : ℕ → ℕ → List F → List ℕ → List ℕ
+abbrev pub openingsOf : ℕ → ℕ → List ℕ → List F → List ℕ → List ℕ
 openingsOf = Rattle.theory.specs.Calls.openingsOf fp
 
-abbrev pub openFits : ℕ → ℕ → List ℕ → List ℕ → List ℕ → Bool
+abbrev pub openFits : ℕ → ℕ → List ℕ → List ℕ → List ℕ → List ℕ → Bool
 openFits = Rattle.theory.specs.Calls.openFits fp
 
-abbrev pub openChecks : ℕ → ℕ → List ℕ → List ℕ → List ℕ → List Check
+abbrev pub openChecks : ℕ → ℕ → List ℕ → List ℕ → List ℕ → List ℕ → List Check
 openChecks = Rattle.theory.specs.Calls.openChecks fp
 
-abbrev pub «open» : ℕ → ℕ → List ℕ → List ℕ → List ℕ → Opened
+abbrev pub «open» : ℕ → ℕ → List ℕ → List ℕ → List ℕ → List ℕ → Opened
 «open» = Rattle.theory.specs.Calls.«open» fp
 
 abbrev pub witnessOpenings : ℕ → ℕ → List ℕ → ℕ → List ℕ
@@ -220,7 +223,7 @@ readShown = Rattle.theory.specs.Calls.readShown fp
 abbrev pub combines : ℕ → ℕ → List (Item F) → List F → Shown F → Bool
 combines = Rattle.theory.specs.Calls.combines fp
 
-abbrev pub openingsLead : ℕ → List (Item F) → Shown F → Bool
+abbrev pub openingsLead : List (Item F) → Shown F → Bool
 openingsLead = Rattle.theory.specs.Calls.openingsLead fp
 
 abbrev pub valuesCombine : List (Item F) → Shown F → Bool
@@ -235,11 +238,11 @@ verifyChecks = Rattle.theory.specs.Calls.verifyChecks fp
 abbrev pub verify : ℕ → ℕ → ℕ → ℕ → ℕ → ℕ → List ℕ → List ℕ → List ℕ → List ℕ → List ℕ → ℕ
 verify = Rattle.theory.specs.Calls.verify fp
 
-abbrev pub decideFits : ℕ → ℕ → ℕ → List ℕ → List ℕ → List ℕ → List ℕ → List ℕ → Bool
+abbrev pub decideFits : ℕ → ℕ → ℕ → List ℕ → List ℕ → List ℕ → List ℕ → List ℕ → List ℕ → Bool
 decideFits = Rattle.theory.specs.Calls.decideFits fp
 
-abbrev pub decideChecks : ℕ → ℕ → ℕ → List ℕ → List ℕ → List ℕ → List ℕ → List ℕ → List Check
+abbrev pub decideChecks : ℕ → ℕ → ℕ → List ℕ → List ℕ → List ℕ → List ℕ → List ℕ → List ℕ → List Check
 decideChecks = Rattle.theory.specs.Calls.decideChecks fp
 
-abbrev pub decide : ℕ → ℕ → ℕ → List ℕ → List ℕ → List ℕ → List ℕ → List ℕ → ℕ
+abbrev pub decide : ℕ → ℕ → ℕ → List ℕ → List ℕ → List ℕ → List ℕ → List ℕ → List ℕ → ℕ
 decide = Rattle.theory.specs.Calls.decide fp

@@ -1,10 +1,10 @@
--- The checks on sizes, numbers and circuits that several calls share (paper 01, "Checking order", 2 to 6).
+-- The checks on sizes, numbers, points and circuits that several calls share (paper 01, "Checking order", 2 to 6, and 12, which was added to it).
 use mathlib.Core.Bool.{Bool, _&&_, _||_}
 use mathlib.Core.List.{List}
 use Prim.Native.Nat.{ℕ, suc, _+_, _-_, _*_, _%_, _^_}
 use lib.ListN.{length}
 use lib.Dec.{eqb, leb, ltb}
-use Rattle.numbers.specs.Numbers.{numbers, allBelow}
+use Rattle.numbers.specs.Numbers.{numbers, allBelow, allDifferent}
 use Rattle.field.specs.BabyBear.{p}
 use Rattle.code.specs.Points.{isWitnessCount}
 use Rattle.theory.specs.Checks.{every}
@@ -32,6 +32,10 @@ circuitFits a b c = matrixFits a && matrixFits b && matrixFits c
 abbrev pub hasLength : List ℕ → ℕ → Bool
 hasLength b size = eqb (length b) size
 
+-- Lent points: none, which asks for the built-in ones, or 4k numbers.
+abbrev pub pointsFit : ℕ → List ℕ → Bool
+pointsFit k points = hasLength points 0 || hasLength points (4 * (4 * k))
+
 -- ---- check 3: the numbers of elements (coefficients of a quotient and opened values too) are below p
 
 abbrev pub elementsBelow : List ℕ → Bool
@@ -55,6 +59,11 @@ module _ (I : Instance) where
 
   abbrev pub openedBelow : ℕ → ℕ → List ℕ → Bool
   openedBelow depth count openings = every count (λ j. E .below (openedPart I depth openings j) 0)
+
+-- ---- check 12, directly after 3: each lent point is below p, and none repeats another
+
+abbrev pub pointsDiffer : List ℕ → Bool
+pointsDiffer points = allBelow p (numbers points) && allDifferent (numbers points)
 
 -- ---- check 4: entries are inside rows and columns, and strictly ascending by row and then column
 

@@ -51,13 +51,13 @@ module _ (I : Instance) where
 
   -- ---- the first statement: one chain of calls
 
-  -- A list is honest when the items, a witness for each and the one circuit pass checks 2 to 4 (3 and 4 are `listChecks`),
-  -- and every item holds and matches with its witness.
-  pub record Honest (m n k l : ℕ) (a b c items wits : List ℕ) : Type 0 where
-    pub check2 : listFits I m n k l a b c items wits ≡ true
-    pub checks : answer (listChecks I m n k l a b c items wits) ≡ 0
+  -- A list is honest over points when the points, the items, a witness for each and the one circuit pass checks 2, 3, 12 and 4 (behind 2
+  -- they are `listChecks`), and every item holds and matches with its witness. Lent points that are empty stand for the built-in ones.
+  pub record Honest (m n k l : ℕ) (points a b c items wits : List ℕ) : Type 0 where
+    pub check2 : listFits I m n k l points a b c items wits ≡ true
+    pub checks : answer (listChecks I m n k l points a b c items wits) ≡ 0
     pub holds : (i : ℕ) → i < l → Holds F (circuit I a b c) (itemAt F (readItems I m n l items) i) (readWitness I k wits i)
-    pub matches : (i : ℕ) → i < l → Matches F H (code I k) (itemAt F (readItems I m n l items) i) (readWitness I k wits i)
+    pub matches : (i : ℕ) → i < l → Matches F H (code I k points) (itemAt F (readItems I m n l items) i) (readWitness I k wits i)
 
   -- A challenge is permitted when it has its length and passes 5.
   abbrev pub PermittedChallenge : ℕ → E .Challenge → Type 0
@@ -68,17 +68,18 @@ module _ (I : Instance) where
     pub folding : foldOutputsFit I m n k l quotient item wit ≡ true
     pub opening : (i : ℕ) → i < suc l → hasLength (openings i) (t * openingSize I (depth k)) ≡ true
 
-  module _ (m n k l t : ℕ) (challenge : E .Challenge) (a b c items wits positions quotient item wit : List ℕ) (openings : ℕ → List ℕ) where
+  -- Every call of the chain that takes points is lent the same.
+  module _ (m n k l t : ℕ) (challenge : E .Challenge) (points a b c items wits positions quotient item wit : List ℕ) (openings : ℕ → List ℕ) where
     -- Folding is given the list with its circuit and witnesses, and the challenge.
     abbrev pub folding : Folded
-    folding = fold I m n k l challenge a b c items wits quotient item wit
+    folding = fold I m n k l challenge points a b c items wits quotient item wit
 
     -- The witnesses, and after them the new one, as folding wrote it; opening is called once for each.
     abbrev pub witnesses : List (List ℕ)
     witnesses = build l (witnessPart I k wits) ++ (folding .wit ∷ [])
 
     abbrev pub opening : ℕ → Opened
-    opening i = «open» I k t (getD witnesses i []) positions (openings i)
+    opening i = «open» I k t points (getD witnesses i []) positions (openings i)
 
     -- Verifying gets the items, challenge and positions, the quotient and new item that folding wrote, and all the openings in order.
     abbrev pub verifying : ℕ
@@ -86,21 +87,21 @@ module _ (I : Instance) where
 
     -- Deciding gets the circuit, the new item and the new witness.
     abbrev pub deciding : ℕ
-    deciding = decide I m n k a b c (folding .item) (folding .wit)
+    deciding = decide I m n k points a b c (folding .item) (folding .wit)
 
     -- What the calls of the chain answer.
     abbrev pub chainAnswers : List ℕ
     chainAnswers = folding .answer ∷ (build (suc l) (λ i. opening i .answer) ++ (verifying ∷ deciding ∷ []))
 
-  -- For an honest list, a permitted challenge and permitted positions, every call of the chain answers zero.
+  -- For a list that is honest over some points, a permitted challenge and permitted positions, every call of the chain answers zero.
   abbrev pub FirstStatement : Type 0
   FirstStatement =
-      (m n k l t : ℕ) (challenge : E .Challenge) (a b c items wits positions quotient item wit : List ℕ) (openings : ℕ → List ℕ)
-      → Honest m n k l a b c items wits
+      (m n k l t : ℕ) (challenge : E .Challenge) (points a b c items wits positions quotient item wit : List ℕ) (openings : ℕ → List ℕ)
+      → Honest m n k l points a b c items wits
       → PermittedChallenge l challenge
       → PermittedPositions k t positions
       → OutputsFit m n k l t quotient item wit openings
-      → All (λ r. r ≡ 0) (chainAnswers m n k l t challenge a b c items wits positions quotient item wit openings)
+      → All (λ r. r ≡ 0) (chainAnswers m n k l t challenge points a b c items wits positions quotient item wit openings)
 
   -- ---- the second statement: a list of folds
 
@@ -115,13 +116,13 @@ module _ (I : Instance) where
     pub witness : List ℕ
 
   -- All folds of a list are verified and decided with the same sizes, verified with the same items and quotient, and decided with
-  -- the same circuit.
-  module _ (m n k l : ℕ) (a b c items quotient : List ℕ) where
+  -- the same points and circuit.
+  module _ (m n k l : ℕ) (points a b c items quotient : List ℕ) where
     -- A fold is accepted when verifying answers zero to it and deciding answers zero to its new item with its witness.
     abbrev pub isAccepted : FoldBytes → Bool
     isAccepted f =
         eqb (verify I m n k l (f .t) (f .challenge) items (f .positions) quotient (f .item) (f .openings)) 0
-        && eqb (decide I m n k a b c (f .item) (f .witness)) 0
+        && eqb (decide I m n k points a b c (f .item) (f .witness)) 0
 
     -- What the bytes of a fold show, and its witness.
     abbrev pub readFold : FoldBytes → Fold K
@@ -129,12 +130,12 @@ module _ (I : Instance) where
 
     -- The byte strings hashed for a list of folds.
     abbrev pub stringsHashed : List FoldBytes → List (List ℕ)
-    stringsHashed folds = hashedFor F (readItems I m n l items) H (code I k) (map readFold folds)
+    stringsHashed folds = hashedFor F (readItems I m n l items) H (code I k points) (map readFold folds)
 
     -- A witness of k elements whose codeword has the given values at the positions.
     pub record HasValues (ps : List ℕ) (values : ℕ → K) (w : List K) : Type 0 where
       pub size : length w ≡ k
-      pub values-at : (p : ℕ) → List·Memᴰ p ps → getD (codewordOf I k w) p 𝟘 ≡ values p
+      pub values-at : (p : ℕ) → List·Memᴰ p ps → getD (codewordOf I k points w) p 𝟘 ≡ values p
 
     -- The folds show one value of each item at each of the positions; the codeword of exactly one witness has these values;
     -- and each item holds with it.
@@ -162,7 +163,7 @@ module _ (I : Instance) where
   -- That number is the degree in the challenge of the equation that an accepted fold tests.
   abbrev pub SecondStatement : Type 0
   SecondStatement =
-      (m n k l : ℕ) (a b c items quotient : List ℕ) (folds : List FoldBytes) (ps : List ℕ) → length ps ≡ k → Distinct ps
-      → let kept = chosen m n k l a b c items quotient ps folds in let strings = stringsHashed m n k l a b c items quotient kept in
-      (l - 1) * (m + 2) < length (challenges m n k l a b c items quotient kept)
-      → Collision (H .digest) strings strings ⊎ EachHolds m n k l a b c items quotient ps kept
+      (m n k l : ℕ) (points a b c items quotient : List ℕ) (folds : List FoldBytes) (ps : List ℕ) → length ps ≡ k → Distinct ps
+      → let kept = chosen m n k l points a b c items quotient ps folds in let strings = stringsHashed m n k l points a b c items quotient kept in
+      (l - 1) * (m + 2) < length (challenges m n k l points a b c items quotient kept)
+      → Collision (H .digest) strings strings ⊎ EachHolds m n k l points a b c items quotient ps kept

@@ -66,12 +66,12 @@ module _ {s : List ℕ} {st : State} (scanned : AfterScan s st) where
 
   -- Check 3 of the pairs at the fronts of the buffers is that of the lines.
   pub pairs-same : (items₀ wits₀ items wits : List ℕ) → PairLengths items₀ wits₀ → Filled (bytesOf Item (sheetLines s)) items₀ items → Filled (bytesOf Wit (sheetLines s)) wits₀ wits
-      → answer (listChecks (st .sizes .m) (st .sizes .n) (st .sizes .k) (st .pairs .count) [] [] [] (take (4 * st .pairs .items) items) (take (4 * st .pairs .wits) wits))
-      ≡ (let ls = sheetLines s in answer (listChecks (m ls) (n ls) (k ls) (pairs ls) [] [] [] (bytesOf Item ls) (bytesOf Wit ls)))
+      → answer (listChecks (st .sizes .m) (st .sizes .n) (st .sizes .k) (st .pairs .count) [] [] [] [] (take (4 * st .pairs .items) items) (take (4 * st .pairs .wits) wits))
+      ≡ (let ls = sheetLines s in answer (listChecks (m ls) (n ls) (k ls) (pairs ls) [] [] [] [] (bytesOf Item ls) (bytesOf Wit ls)))
   pairs-same items₀ wits₀ items wits large put-items put-wits =
       let i = front (bytesOf Item (sheetLines s)) items₀ items put-items items-long (omega (arith, items-whole, items-most bounds, large .items-length)) in
       let w = front (bytesOf Wit (sheetLines s)) wits₀ wits put-wits wits-long (omega (arith, wits-whole, wits-most bounds, large .wits-length)) in
-      rw (i, w) (ap (λ (t : State). answer (listChecks (t .sizes .m) (t .sizes .n) (t .sizes .k) (t .pairs .count) [] [] [] (bytesOf Item (sheetLines s)) (bytesOf Wit (sheetLines s)))) state)
+      rw (i, w) (ap (λ (t : State). answer (listChecks (t .sizes .m) (t .sizes .n) (t .sizes .k) (t .pairs .count) [] [] [] [] (bytesOf Item (sheetLines s)) (bytesOf Wit (sheetLines s)))) state)
 
   -- What an acceptance gives.
   pub accepted : {r : Reading} {y : ℕ} → r ≡ record { answer = 0; m = st .sizes .m; n = st .sizes .n; k = st .sizes .k; a = st .entries .a; b = st .entries .b; c = st .entries .c; pairs = st .pairs .count } → 0 ≡ y
@@ -101,7 +101,7 @@ module _ {s : List ℕ} (whole : AfterScan s (stateAfter (sheetLines s) (length 
   -- Checks 3 and 4 of the circuit at the fronts of the buffers are those of the lines.
   pub circuit-same : (a₀ b₀ c₀ a b c : List ℕ) → EntryLengths a₀ b₀ c₀
       → Filled (bytesOf EntryA (sheetLines s)) a₀ a → Filled (bytesOf EntryB (sheetLines s)) b₀ b → Filled (bytesOf EntryC (sheetLines s)) c₀ c
-      → answer (listChecks (st .sizes .m) (st .sizes .n) (st .sizes .k) 0 (take (12 * st .entries .a) a) (take (12 * st .entries .b) b) (take (12 * st .entries .c) c) [] [])
+      → answer (listChecks (st .sizes .m) (st .sizes .n) (st .sizes .k) 0 [] (take (12 * st .entries .a) a) (take (12 * st .entries .b) b) (take (12 * st .entries .c) c) [] [])
       ≡ answer (circuitChecks (sheetLines s))
   circuit-same a₀ b₀ c₀ a b c large put-a put-b put-c =
       let p = front (bytesOf EntryA (sheetLines s)) a₀ a put-a (a-long whole) (omega (arith, bounds whole .a-most, large .a-length)) in

@@ -5,7 +5,7 @@ use mathlib.Core.Bool.{Bool, true, false, _&&_}
 use mathlib.Core.List.{List, []}
 use Prim.Native.Nat.{ℕ, _<_}
 use native.Mathlib.Omega.{arith}
-use Rattle.numbers.specs.Numbers.{numbers, allBelow}
+use Rattle.numbers.specs.Numbers.{numbers, allBelow, allDifferent}
 use Rattle.numbers.proofs.Tests.{and-left}
 use Rattle.theory.specs.Checks.{answerIf, answer, every}
 use Rattle.theory.specs.Sizes.{elementsBelow, circuitBelow, circuitInOrder}
@@ -41,12 +41,12 @@ pairs-pass values false wits order h = absurd (omega arith)
 -- ---- lists
 
 module _ (m n k l : ℕ) (a b c items wits : List ℕ) where
-  list-refused : answer (listChecks m n k l [] [] [] items wits) ≢ 0 → answer (listChecks m n k l a b c items wits) ≡ answer (listChecks m n k l [] [] [] items wits)
-  unfolding every
+  list-refused : answer (listChecks m n k l [] [] [] [] items wits) ≢ 0 → answer (listChecks m n k l [] a b c items wits) ≡ answer (listChecks m n k l [] [] [] [] items wits)
+  unfolding every numbers allBelow allDifferent
   list-refused h = pairs-fail (circuitBelow a b c) (itemsBelow m n l items) (elementsBelow wits) (circuitInOrder m n k a b c) h
 
-  list-passed : answer (listChecks m n k l [] [] [] items wits) ≡ 0 → answer (listChecks m n k l a b c items wits) ≡ answer (listChecks m n k 0 a b c [] [])
-  unfolding every numbers allBelow
+  list-passed : answer (listChecks m n k l [] [] [] [] items wits) ≡ 0 → answer (listChecks m n k l [] a b c items wits) ≡ answer (listChecks m n k 0 [] a b c [] [])
+  unfolding every numbers allBelow allDifferent
   list-passed h = pairs-pass (circuitBelow a b c) (itemsBelow m n l items) (elementsBelow wits) (circuitInOrder m n k a b c) h
 
 -- ---- sheets

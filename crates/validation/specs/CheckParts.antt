@@ -15,8 +15,8 @@ pairChecks s lengths =
     let ls = sheetLines s in
     check 1 (keepsRules s)
     ∷ check 2 (countsFit ls && lengths)
-    ∷ listChecks (m ls) (n ls) (k ls) (pairs ls) [] [] [] (bytesOf Item ls) (bytesOf Wit ls)
+    ∷ listChecks (m ls) (n ls) (k ls) (pairs ls) [] [] [] [] (bytesOf Item ls) (bytesOf Wit ls)
 
 -- Checks 3 and 4 of the circuit: as of no items.
 abbrev pub circuitChecks : List Line → List Check
-circuitChecks ls = listChecks (m ls) (n ls) (k ls) 0 (bytesOf EntryA ls) (bytesOf EntryB ls) (bytesOf EntryC ls) [] []
+circuitChecks ls = listChecks (m ls) (n ls) (k ls) 0 [] (bytesOf EntryA ls) (bytesOf EntryB ls) (bytesOf EntryC ls) [] []

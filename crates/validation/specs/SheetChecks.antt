@@ -1,6 +1,6 @@
 -- The checks of a sheet (paper 01, "Checking order"), and the result of reading it.
 use mathlib.Core.Bool.{Bool, _&&_}
-use mathlib.Core.List.{List, _∷_}
+use mathlib.Core.List.{List, [], _∷_}
 use Prim.Native.Nat.{ℕ, zero, suc}
 use lib.ListN.{length}
 use lib.Dec.{eqb, leb}
@@ -39,13 +39,14 @@ stateFits st =
 abbrev pub buffersFit : List ℕ → List ℕ → List ℕ → List ℕ → List ℕ → Bool
 buffersFit a b c items wits = hasLength a 12288 && hasLength b 12288 && hasLength c 12288 && hasLength items 20224 && hasLength wits 16384
 
--- The checks of a sheet; `lengths` is what check 2 says of the buffers. Behind check 2 its pairs are tested as any list of items.
+-- The checks of a sheet; `lengths` is what check 2 says of the buffers. Behind check 2 its pairs are tested as any list of items for which
+-- no points are lent.
 abbrev pub sheetChecks : List ℕ → Bool → List Check
 sheetChecks s lengths =
     let ls = sheetLines s in
     check 1 (keepsRules s)
     ∷ check 2 (countsFit ls && lengths)
-    ∷ listChecks (m ls) (n ls) (k ls) (pairs ls) (bytesOf EntryA ls) (bytesOf EntryB ls) (bytesOf EntryC ls) (bytesOf Item ls) (bytesOf Wit ls)
+    ∷ listChecks (m ls) (n ls) (k ls) (pairs ls) [] (bytesOf EntryA ls) (bytesOf EntryB ls) (bytesOf EntryC ls) (bytesOf Item ls) (bytesOf Wit ls)
 
 -- The result: the answer, and the sizes and counts where it is 0.
 abbrev pub result : ℕ → List Line → Reading

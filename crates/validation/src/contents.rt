@@ -27,7 +27,7 @@ pub fn counts_fit(st: State) -> bool
 pub fn pairs_answer(st: State, items: &[u8], wits: &[u8]) -> u32
     requires { ⌜ CountBounds (st .sizes .m) (st .sizes .n) (st .sizes .k) (st .entries .a) (st .entries .b) (st .entries .c) (st .pairs .count) × PairLengths (now items) (now wits) ⌝ }
     requires { ⌜ (4 * st .pairs .items ≡ st .pairs .count * itemSize (st .sizes .m) (st .sizes .n)) × (4 * st .pairs .wits ≡ 4 * (st .pairs .count * st .sizes .k)) ⌝ }
-    ensures { λ r. ⌜ r ≡ answer (listChecks (st .sizes .m) (st .sizes .n) (st .sizes .k) (st .pairs .count) [] [] [] (take (4 * st .pairs .items) (now (items .entry))) (take (4 * st .pairs .wits) (now (wits .entry)))) ⌝ }
+    ensures { λ r. ⌜ r ≡ answer (listChecks (st .sizes .m) (st .sizes .n) (st .sizes .k) (st .pairs .count) [] [] [] [] (take (4 * st .pairs .items) (now (items .entry))) (take (4 * st .pairs .wits) (now (wits .entry)))) ⌝ }
 {
     let count = st.pairs.count;
     checks::list::verdict(
@@ -35,6 +35,7 @@ pub fn pairs_answer(st: State, items: &[u8], wits: &[u8]) -> u32
         st.sizes.n as usize,
         st.sizes.k as usize,
         count,
+        &items[..0],
         &items[..0],
         &items[..0],
         &items[..0],
@@ -46,13 +47,14 @@ pub fn pairs_answer(st: State, items: &[u8], wits: &[u8]) -> u32
 // Checks 3 and 4 of the circuit at the fronts of the buffers, as of a list without pairs.
 pub fn circuit_answer(st: State, a: &[u8], b: &[u8], c: &[u8]) -> u32
     requires { ⌜ CountBounds (st .sizes .m) (st .sizes .n) (st .sizes .k) (st .entries .a) (st .entries .b) (st .entries .c) 0 × EntryLengths (now a) (now b) (now c) ⌝ }
-    ensures { λ r. ⌜ r ≡ answer (listChecks (st .sizes .m) (st .sizes .n) (st .sizes .k) 0 (take (12 * st .entries .a) (now (a .entry))) (take (12 * st .entries .b) (now (b .entry))) (take (12 * st .entries .c) (now (c .entry))) [] []) ⌝ }
+    ensures { λ r. ⌜ r ≡ answer (listChecks (st .sizes .m) (st .sizes .n) (st .sizes .k) 0 [] (take (12 * st .entries .a) (now (a .entry))) (take (12 * st .entries .b) (now (b .entry))) (take (12 * st .entries .c) (now (c .entry))) [] []) ⌝ }
 {
     checks::list::verdict(
         st.sizes.m as usize,
         st.sizes.n as usize,
         st.sizes.k as usize,
         0,
+        &a[..0],
         &a[..12 * st.entries.a],
         &b[..12 * st.entries.b],
         &c[..12 * st.entries.c],

@@ -4,22 +4,29 @@ ghost use Rattle.theory.specs.Checks.{written};
 ghost use Rattle.theory.specs.Fp.{encode, cast, quotient, fold, «open», interleave, verify, decide};
 ghost use Rattle.sheet.specs.Reading.{readSheet, sizesOf};
 
-// Writes the codeword of a witness and its root. Checks 2 and 3.
+// Writes the codeword of a witness and its root. Checks 2, 3 and 12.
 #[no_mangle]
-pub extern "C" fn lomvuze_encode(k: u32, w: &[u8], code: &mut [u8], root: &mut [u8]) -> u32
-    ensures answer { λ r. ⌜ r ≡ encode k (now (w .entry)) (now (code .entry)) (now (root .entry)) .answer ⌝ }
-    ensures code { λ r. ⌜ now (code .exit) ≡ encode k (now (w .entry)) (now (code .entry)) (now (root .entry)) .code ⌝ }
-    ensures root { λ r. ⌜ now (root .exit) ≡ encode k (now (w .entry)) (now (code .entry)) (now (root .entry)) .root ⌝ }
+pub extern "C" fn lomvuze_encode(
+    k: u32,
+    points: &[u8],
+    w: &[u8],
+    code: &mut [u8],
+    root: &mut [u8],
+) -> u32
+    ensures answer { λ r. ⌜ r ≡ encode k (now (points .entry)) (now (w .entry)) (now (code .entry)) (now (root .entry)) .answer ⌝ }
+    ensures code { λ r. ⌜ now (code .exit) ≡ encode k (now (points .entry)) (now (w .entry)) (now (code .entry)) (now (root .entry)) .code ⌝ }
+    ensures root { λ r. ⌜ now (root .exit) ≡ encode k (now (points .entry)) (now (w .entry)) (now (code .entry)) (now (root .entry)) .root ⌝ }
 {
-    encoder::encode::encode(k, w, code, root)
+    encoder::encode::encode(k, points, w, code, root)
 }
 
-// Writes the item of an instance: r as lent, e 0, the root of the witness. Checks 2, 3, 4 and 11.
+// Writes the item of an instance: r as lent, e 0, the root of the witness. Checks 2, 3, 12, 4 and 11.
 #[no_mangle]
 pub extern "C" fn lomvuze_cast(
     m: u32,
     n: u32,
     k: u32,
+    points: &[u8],
     a: &[u8],
     b: &[u8],
     c: &[u8],
@@ -28,19 +35,20 @@ pub extern "C" fn lomvuze_cast(
     w: &[u8],
     item: &mut [u8],
 ) -> u32
-    ensures answer { λ res. ⌜ res ≡ cast m n k (now (a .entry)) (now (b .entry)) (now (c .entry)) (now (r .entry)) (now (x .entry)) (now (w .entry)) (now (item .entry)) .answer ⌝ }
-    ensures item { λ res. ⌜ now (item .exit) ≡ cast m n k (now (a .entry)) (now (b .entry)) (now (c .entry)) (now (r .entry)) (now (x .entry)) (now (w .entry)) (now (item .entry)) .item ⌝ }
+    ensures answer { λ res. ⌜ res ≡ cast m n k (now (points .entry)) (now (a .entry)) (now (b .entry)) (now (c .entry)) (now (r .entry)) (now (x .entry)) (now (w .entry)) (now (item .entry)) .answer ⌝ }
+    ensures item { λ res. ⌜ now (item .exit) ≡ cast m n k (now (points .entry)) (now (a .entry)) (now (b .entry)) (now (c .entry)) (now (r .entry)) (now (x .entry)) (now (w .entry)) (now (item .entry)) .item ⌝ }
 {
-    decider::cast::cast(m, n, k, a, b, c, r, x, w, item)
+    decider::cast::cast(m, n, k, points, a, b, c, r, x, w, item)
 }
 
-// Writes the quotient of a list of items with their witnesses. Checks 2, 3, 4, 10 and 11.
+// Writes the quotient of a list of items with their witnesses. Checks 2, 3, 12, 4, 10 and 11.
 #[no_mangle]
 pub extern "C" fn lomvuze_quotient(
     m: u32,
     n: u32,
     k: u32,
     l: u32,
+    points: &[u8],
     a: &[u8],
     b: &[u8],
     c: &[u8],
@@ -48,13 +56,13 @@ pub extern "C" fn lomvuze_quotient(
     wits: &[u8],
     out: &mut [u8],
 ) -> u32
-    ensures answer { λ r. ⌜ r ≡ quotient m n k l (now (a .entry)) (now (b .entry)) (now (c .entry)) (now (items .entry)) (now (wits .entry)) (now (out .entry)) .answer ⌝ }
-    ensures quotient { λ r. ⌜ now (out .exit) ≡ quotient m n k l (now (a .entry)) (now (b .entry)) (now (c .entry)) (now (items .entry)) (now (wits .entry)) (now (out .entry)) .quotient ⌝ }
+    ensures answer { λ r. ⌜ r ≡ quotient m n k l (now (points .entry)) (now (a .entry)) (now (b .entry)) (now (c .entry)) (now (items .entry)) (now (wits .entry)) (now (out .entry)) .answer ⌝ }
+    ensures quotient { λ r. ⌜ now (out .exit) ≡ quotient m n k l (now (points .entry)) (now (a .entry)) (now (b .entry)) (now (c .entry)) (now (items .entry)) (now (wits .entry)) (now (out .entry)) .quotient ⌝ }
 {
-    prover::quotient::quotient(m, n, k, l, a, b, c, items, wits, out)
+    prover::quotient::quotient(m, n, k, l, points, a, b, c, items, wits, out)
 }
 
-// Writes the quotient, the new item and the new witness at a challenge. Checks 2, 3, 4, 5, 10 and 11.
+// Writes the quotient, the new item and the new witness at a challenge. Checks 2, 3, 12, 4, 5, 10 and 11.
 #[no_mangle]
 pub extern "C" fn lomvuze_fold(
     m: u32,
@@ -62,6 +70,7 @@ pub extern "C" fn lomvuze_fold(
     k: u32,
     l: u32,
     challenge: u32,
+    points: &[u8],
     a: &[u8],
     b: &[u8],
     c: &[u8],
@@ -71,10 +80,10 @@ pub extern "C" fn lomvuze_fold(
     item: &mut [u8],
     wit: &mut [u8],
 ) -> u32
-    ensures answer { λ r. ⌜ r ≡ fold m n k l challenge (now (a .entry)) (now (b .entry)) (now (c .entry)) (now (items .entry)) (now (wits .entry)) (now (quotient .entry)) (now (item .entry)) (now (wit .entry)) .answer ⌝ }
-    ensures quotient { λ r. ⌜ now (quotient .exit) ≡ fold m n k l challenge (now (a .entry)) (now (b .entry)) (now (c .entry)) (now (items .entry)) (now (wits .entry)) (now (quotient .entry)) (now (item .entry)) (now (wit .entry)) .quotient ⌝ }
-    ensures item { λ r. ⌜ now (item .exit) ≡ fold m n k l challenge (now (a .entry)) (now (b .entry)) (now (c .entry)) (now (items .entry)) (now (wits .entry)) (now (quotient .entry)) (now (item .entry)) (now (wit .entry)) .item ⌝ }
-    ensures wit { λ r. ⌜ now (wit .exit) ≡ fold m n k l challenge (now (a .entry)) (now (b .entry)) (now (c .entry)) (now (items .entry)) (now (wits .entry)) (now (quotient .entry)) (now (item .entry)) (now (wit .entry)) .wit ⌝ }
+    ensures answer { λ r. ⌜ r ≡ fold m n k l challenge (now (points .entry)) (now (a .entry)) (now (b .entry)) (now (c .entry)) (now (items .entry)) (now (wits .entry)) (now (quotient .entry)) (now (item .entry)) (now (wit .entry)) .answer ⌝ }
+    ensures quotient { λ r. ⌜ now (quotient .exit) ≡ fold m n k l challenge (now (points .entry)) (now (a .entry)) (now (b .entry)) (now (c .entry)) (now (items .entry)) (now (wits .entry)) (now (quotient .entry)) (now (item .entry)) (now (wit .entry)) .quotient ⌝ }
+    ensures item { λ r. ⌜ now (item .exit) ≡ fold m n k l challenge (now (points .entry)) (now (a .entry)) (now (b .entry)) (now (c .entry)) (now (items .entry)) (now (wits .entry)) (now (quotient .entry)) (now (item .entry)) (now (wit .entry)) .item ⌝ }
+    ensures wit { λ r. ⌜ now (wit .exit) ≡ fold m n k l challenge (now (points .entry)) (now (a .entry)) (now (b .entry)) (now (c .entry)) (now (items .entry)) (now (wits .entry)) (now (quotient .entry)) (now (item .entry)) (now (wit .entry)) .wit ⌝ }
 {
     prover::folding::fold(
         m,
@@ -82,6 +91,7 @@ pub extern "C" fn lomvuze_fold(
         k,
         l,
         challenge,
+        points,
         a,
         b,
         c,
@@ -93,19 +103,20 @@ pub extern "C" fn lomvuze_fold(
     )
 }
 
-// Writes the openings of a witness at a list of positions. Checks 2, 3 and 6.
+// Writes the openings of a witness at a list of positions. Checks 2, 3, 12 and 6.
 #[no_mangle]
 pub extern "C" fn lomvuze_open(
     k: u32,
     t: u32,
+    points: &[u8],
     w: &[u8],
     positions: &[u8],
     openings: &mut [u8],
 ) -> u32
-    ensures answer { λ r. ⌜ r ≡ «open» k t (now (w .entry)) (now (positions .entry)) (now (openings .entry)) .answer ⌝ }
-    ensures openings { λ r. ⌜ now (openings .exit) ≡ «open» k t (now (w .entry)) (now (positions .entry)) (now (openings .entry)) .openings ⌝ }
+    ensures answer { λ r. ⌜ r ≡ «open» k t (now (points .entry)) (now (w .entry)) (now (positions .entry)) (now (openings .entry)) .answer ⌝ }
+    ensures openings { λ r. ⌜ now (openings .exit) ≡ «open» k t (now (points .entry)) (now (w .entry)) (now (positions .entry)) (now (openings .entry)) .openings ⌝ }
 {
-    encoder::open::open(k, t, w, positions, openings)
+    encoder::open::open(k, t, points, w, positions, openings)
 }
 
 // Writes the openings of l + 1 witnesses, the new one's last, in the order in which lomvuze_verify reads them. Check 2.
@@ -155,21 +166,22 @@ pub extern "C" fn lomvuze_verify(
     )
 }
 
-// Decides an item with its witness. Checks 2, 3, 4, 10 and 11.
+// Decides an item with its witness. Checks 2, 3, 12, 4, 10 and 11.
 #[no_mangle]
 pub extern "C" fn lomvuze_decide(
     m: u32,
     n: u32,
     k: u32,
+    points: &[u8],
     a: &[u8],
     b: &[u8],
     c: &[u8],
     item: &[u8],
     wit: &[u8],
 ) -> u32
-    ensures { λ r. ⌜ r ≡ decide m n k (now (a .entry)) (now (b .entry)) (now (c .entry)) (now (item .entry)) (now (wit .entry)) ⌝ }
+    ensures { λ r. ⌜ r ≡ decide m n k (now (points .entry)) (now (a .entry)) (now (b .entry)) (now (c .entry)) (now (item .entry)) (now (wit .entry)) ⌝ }
 {
-    decider::decide::decide(m, n, k, a, b, c, item, wit)
+    decider::decide::decide(m, n, k, points, a, b, c, item, wit)
 }
 
 // Reads a sheet into buffers of the greatest lengths; sizes gets m, n, k, the entries of A, B and C, and the count of pairs. Checks 1 to 4.

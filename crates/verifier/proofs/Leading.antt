@@ -23,7 +23,6 @@ use Rattle.theory.specs.Combination.{mix}
 use Rattle.theory.specs.Folds.{Opening, Shown, positionCount, valueAt, leadsTo, itemOf}
 use Rattle.theory.specs.Checks.{every}
 use Rattle.theory.specs.Buffers.{numberAt}
-use Rattle.theory.specs.Instance.{code}
 use Rattle.theory.specs.Fp.{fp, sha, elementAt, itemFront, itemSize, readItems, openedBelow, sameElement, readShown, openingsLead, valuesCombine}
 use Rattle.theory.proofs.CheckLaws.{every-true}
 use Rattle.theory.proofs.Reading.{length-readItems, openingAt-readShown, row-within}
@@ -75,7 +74,7 @@ module _ (m n k l t challenge : ℕ) (items positions item openings : List ℕ)
     value-below = ltb-true (openedValue openings place) p (every-true (t * suc l) _ below (q * suc l + i) (row-within q t i (suc l) g h))
 
     -- Where an opening leads.
-    leads-same : sameBytes (leadsTo babyBear batch sha (code fp k) shown q i) (itemOf babyBear batch shown i .root)
+    leads-same : sameBytes (leadsTo babyBear batch sha shown q i) (itemOf babyBear batch shown i .root)
         ≡ leads (itemSize m n) (itemFront m n) (openingSize (depth k)) l (depth k) items positions item openings q i
     unfolding itemOf
     leads-same = ap₂ sameBytes
@@ -100,12 +99,12 @@ module _ (m n k l t challenge : ℕ) (items positions item openings : List ℕ)
       number-below : number < p
       number-below = rw value-same at value-below
 
-  all-lead : every t (λ q. every (suc l) (leads (itemSize m n) (itemFront m n) (openingSize (depth k)) l (depth k) items positions item openings q)) ≡ openingsLead k batch shown
-  all-lead = sym (ap₂ (λ (a b : ℕ). every a (λ q. every (suc b) (λ i. sameBytes (leadsTo babyBear batch sha (code fp k) shown q i) (itemOf babyBear batch shown i .root)))) position-count item-count
+  all-lead : every t (λ q. every (suc l) (leads (itemSize m n) (itemFront m n) (openingSize (depth k)) l (depth k) items positions item openings q)) ≡ openingsLead batch shown
+  all-lead = sym (ap₂ (λ (a b : ℕ). every a (λ q. every (suc b) (λ i. sameBytes (leadsTo babyBear batch sha shown q i) (itemOf babyBear batch shown i .root)))) position-count item-count
       ∙ every-cong t _ _ (λ q g. every-cong (suc l) _ _ (λ i h. leads-same q i g h)))
 
   pub openings-lead : {size front opening d : ℕ} {r : Bool} → size ≡ itemSize m n → front ≡ itemFront m n → opening ≡ openingSize d → d ≡ depth k
-      → r ≡ every t (λ q. every (suc l) (leads size front opening l d items positions item openings q)) → r ≡ openingsLead k batch shown
+      → r ≡ every t (λ q. every (suc l) (leads size front opening l d items positions item openings q)) → r ≡ openingsLead batch shown
   openings-lead {size} {front} {opening} {d} es ef eo ed h =
       h
       ∙ ap₂ (λ (s f : ℕ). every t (λ q. every (suc l) (leads s f opening l d items positions item openings q))) es ef

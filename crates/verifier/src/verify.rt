@@ -124,7 +124,7 @@ fn verdict_in(
 ) -> u32
     requires { ⌜ Counts m n k l t × Lengths m n k l t (now items) (now positions) (now quotient) (now item) (now openings) ⌝ }
     requires { ⌜ (elementsBelow (now quotient) ≡ true) × (itemBelow m n (now item) ≡ true) × (openedBelow (depth k) (t * suc l) (now openings) ≡ true) × (challenge < p) × (length (now weights) ≡ l) ⌝ }
-    ensures { λ r. ⌜ r ≡ answer (check 7 (combines m n (readItems m n l (now (items .entry))) (elements (quotientSize m l) (now (quotient .entry))) (readShown m n k l t challenge (now (positions .entry)) (now (item .entry)) (now (openings .entry)))) ∷ check 8 (openingsLead k (readItems m n l (now (items .entry))) (readShown m n k l t challenge (now (positions .entry)) (now (item .entry)) (now (openings .entry)))) ∷ check 9 (valuesCombine (readItems m n l (now (items .entry))) (readShown m n k l t challenge (now (positions .entry)) (now (item .entry)) (now (openings .entry)))) ∷ []) ⌝ }
+    ensures { λ r. ⌜ r ≡ answer (check 7 (combines m n (readItems m n l (now (items .entry))) (elements (quotientSize m l) (now (quotient .entry))) (readShown m n k l t challenge (now (positions .entry)) (now (item .entry)) (now (openings .entry)))) ∷ check 8 (openingsLead (readItems m n l (now (items .entry))) (readShown m n k l t challenge (now (positions .entry)) (now (item .entry)) (now (openings .entry)))) ∷ check 9 (valuesCombine (readItems m n l (now (items .entry))) (readShown m n k l t challenge (now (positions .entry)) (now (item .entry)) (now (openings .entry)))) ∷ []) ⌝ }
 {
     let inverses = field::inverses();
     fold::basis::lagrange(challenge, &inverses, weights);

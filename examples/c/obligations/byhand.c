@@ -29,7 +29,7 @@ void need(const char *call, uint32_t answer) {
 
 void put_root(const struct circuit *c, struct pair *pair) {
   uint8_t codeword[LOMVUZE_CODEWORD_BYTES(MOST_K)];
-  need("encode", lomvuze_encode(c->k, pair->witness, LOMVUZE_WITNESS_BYTES(c->k),
+  need("encode", lomvuze_encode(c->k, LOMVUZE_BUILT_IN_POINTS, pair->witness, LOMVUZE_WITNESS_BYTES(c->k),
                                 codeword, LOMVUZE_CODEWORD_BYTES(c->k),
                                 pair->item + LOMVUZE_ITEM_ROOT(c->m, c->n), LOMVUZE_DIGEST_BYTES));
 }

@@ -2,7 +2,7 @@
 #include "obligations.h"
 
 bool answered(struct tally *tally, enum call call, uint32_t answer) {
-  if (answer > LOMVUZE_CLAIM) need("a call", answer);
+  if (answer > LAST_ANSWER) need("a call", answer);
   if (answer != LOMVUZE_ACCEPTED) tally->refused[call][answer]++;
   return answer == LOMVUZE_ACCEPTED;
 }
@@ -13,7 +13,7 @@ bool cast(const struct circuit *c, struct claim claim, struct pair *pair, struct
   for (size_t j = 0; j < c->n; j++) put(x, j, claim.x[j]);
   for (size_t j = 0; j < c->k; j++) put(pair->witness, j, claim.w[j]);
   return answered(tally, CAST,
-                  lomvuze_cast(c->m, c->n, c->k, c->a, c->length, c->b, c->length, c->c, c->length,
+                  lomvuze_cast(c->m, c->n, c->k, LOMVUZE_BUILT_IN_POINTS, c->a, c->length, c->b, c->length, c->c, c->length,
                                r, LOMVUZE_R_BYTES(c->m), x, LOMVUZE_X_BYTES(c->n),
                                pair->witness, LOMVUZE_WITNESS_BYTES(c->k),
                                pair->item, LOMVUZE_ITEM_BYTES(c->m, c->n)));
@@ -23,7 +23,7 @@ bool fold(struct fold *f, struct tally *tally) {
   const struct circuit *c = f->circuit;
   return answered(tally, FOLD,
                   lomvuze_fold(c->m, c->n, c->k, FOLDED, f->challenge,
-                               c->a, c->length, c->b, c->length, c->c, c->length,
+                               LOMVUZE_BUILT_IN_POINTS, c->a, c->length, c->b, c->length, c->c, c->length,
                                f->items, LOMVUZE_ITEMS_BYTES(c->m, c->n, FOLDED),
                                f->witnesses, LOMVUZE_WITNESSES_BYTES(c->k, FOLDED),
                                f->quotient, LOMVUZE_QUOTIENT_BYTES(c->m, FOLDED),
@@ -39,8 +39,8 @@ bool verify(const struct fold *f, struct tally *tally) {
   size_t each = LOMVUZE_OPENINGS_BYTES(c->k, f->t), all = LOMVUZE_ALL_OPENINGS_BYTES(c->k, FOLDED, f->t);
   for (size_t q = 0; q < f->t; q++) put(positions, q, f->positions[q]);
   for (size_t i = 0; i < FOLDED + 1; i++)
-    need("open", lomvuze_open(c->k, f->t, witnesses[i], LOMVUZE_WITNESS_BYTES(c->k), positions, LOMVUZE_POSITIONS_BYTES(f->t),
-                              opened + i * each, each));
+    need("open", lomvuze_open(c->k, f->t, LOMVUZE_BUILT_IN_POINTS, witnesses[i], LOMVUZE_WITNESS_BYTES(c->k),
+                              positions, LOMVUZE_POSITIONS_BYTES(f->t), opened + i * each, each));
   need("interleave", lomvuze_interleave(c->k, FOLDED, f->t, opened, all, openings, all));
   return answered(tally, VERIFY,
                   lomvuze_verify(c->m, c->n, c->k, FOLDED, f->t, f->challenge,
@@ -51,11 +51,15 @@ bool verify(const struct fold *f, struct tally *tally) {
                                  openings, all));
 }
 
-bool decide(const struct circuit *c, const struct pair *pair, struct tally *tally) {
+bool decide_over(const uint8_t *points, size_t length, const struct circuit *c, const struct pair *pair, struct tally *tally) {
   return answered(tally, DECIDE,
-                  lomvuze_decide(c->m, c->n, c->k, c->a, c->length, c->b, c->length, c->c, c->length,
+                  lomvuze_decide(c->m, c->n, c->k, points, length, c->a, c->length, c->b, c->length, c->c, c->length,
                                  pair->item, LOMVUZE_ITEM_BYTES(c->m, c->n),
                                  pair->witness, LOMVUZE_WITNESS_BYTES(c->k)));
+}
+
+bool decide(const struct circuit *c, const struct pair *pair, struct tally *tally) {
+  return decide_over(LOMVUZE_BUILT_IN_POINTS, c, pair, tally);
 }
 
 /* Park and Miller: the powers of 48271 modulo 2^31 - 1. */

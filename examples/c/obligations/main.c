@@ -36,7 +36,7 @@ static void write_refusals(const struct tally *tally, bool counts, char text[LON
   size_t length = 0;
   text[0] = '\0';
   for (size_t c = 0; c < CALLS; c++)
-    for (size_t answer = 0; answer <= LOMVUZE_CLAIM; answer++) {
+    for (size_t answer = 0; answer <= LAST_ANSWER; answer++) {
       uint32_t times = tally->refused[c][answer];
       if (times == 0) continue;
       const char *comma = length == 0 ? "" : ", ";

@@ -64,13 +64,15 @@ void put_root(const struct circuit *circuit, struct pair *pair);
 
 enum call { CAST, FOLD, VERIFY, DECIDE, CALLS };
 
+enum { LAST_ANSWER = LOMVUZE_POINTS };
+
 /*
  * At how many challenges every call that the clearing house ran answered 0, at how many it must be so, and how often a call gave an answer that
  * is not 0. Casting and folding are the registrar's calls: where they refuse, the rest is done by hand.
  */
 struct tally {
   uint32_t accepted, expected;
-  uint32_t refused[CALLS][LOMVUZE_CLAIM + 1];
+  uint32_t refused[CALLS][LAST_ANSWER + 1];
 };
 
 /* For calls that no run expects to refuse: ends the program where one does. */
@@ -111,11 +113,15 @@ void pick_positions(struct fold *fold, struct picker *picker);
 /* New item and witness at the fold's challenge, for whatever quotient is there: what verify tests, and not that the items hold. */
 void fold_by_hand(struct fold *fold);
 
-/* The calls. Each counts its answer and says whether it is 0; `verify` opens the three witnesses first. */
+/*
+ * The calls. Each counts its answer and says whether it is 0; `verify` opens the three witnesses first. The points that were agreed on are the
+ * built-in ones; `decide_over` is lent others.
+ */
 bool cast(const struct circuit *circuit, struct claim claim, struct pair *pair, struct tally *tally);
 bool fold(struct fold *fold, struct tally *tally);
 bool verify(const struct fold *fold, struct tally *tally);
 bool decide(const struct circuit *circuit, const struct pair *pair, struct tally *tally);
+bool decide_over(const uint8_t *points, size_t length, const struct circuit *circuit, const struct pair *pair, struct tally *tally);
 
 /* Folds at each challenge, by hand where the call refuses, verifies the fold and decides the new item. */
 void run_chains(struct fold *f, struct tally *tally);
@@ -127,7 +133,7 @@ typedef void run(struct tally *without, struct tally *with);
 run e_of_a_fold, r_of_the_registrar, r_known_before;
 run challenge_known_before;
 run position_known_before, position_twice, position_too_few;
-run other_item_decided, other_circuit, other_sizes;
+run other_item_decided, other_circuit, other_sizes, other_points;
 run not_decided, not_verified;
 run other_item_above, lower_not_verified;
 

@@ -37,7 +37,7 @@ void challenge_known_before(struct tally *without, struct tally *with) {
 static uint32_t point(uint32_t position) {
   const uint8_t w[LOMVUZE_WITNESS_BYTES(2)] = {0, 0, 0, 0, 1, 0, 0, 0};
   uint8_t codeword[LOMVUZE_CODEWORD_BYTES(2)], root[LOMVUZE_DIGEST_BYTES];
-  need("encode", lomvuze_encode(2, w, sizeof w, codeword, sizeof codeword, root, sizeof root));
+  need("encode", lomvuze_encode(2, LOMVUZE_BUILT_IN_POINTS, w, sizeof w, codeword, sizeof codeword, root, sizeof root));
   return number(codeword, position);
 }
 

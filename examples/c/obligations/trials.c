@@ -6,7 +6,7 @@ const struct obligation obligations[OBLIGATIONS] = {
     {"2 r", "r is picked after x and root are fixed, and not by the registrar."},
     {"3 challenge", "The challenge is picked after items and quotient are fixed, and not by the registrar."},
     {"4 positions", "At least k different positions, picked after items, quotient and new item are fixed, and not by the registrar."},
-    {"5 same bytes", "Verify and decide get the same new item and the same sizes, and decide gets the agreed circuit."},
+    {"5 same bytes", "Verify and decide get the same new item and the same sizes, and decide gets the agreed circuit and points."},
     {"6 both answers", "The answers of verify and of decide are both 0."},
     {"7 second layer", "What is folded again is, byte by byte, the new item of a fold that was verified."},
 };
@@ -50,6 +50,11 @@ const struct trial trials[TRIALS] = {
      "The circuit says w0 × w1 = x1, and x0 is 1 in every statement: m = 0, n = 2. With m = 1, n = 1 an item has as\n"
      "many bytes, and x0 is read as r. With r = 1 row 0 has the weight 0.",
      "Decided with m = 0, n = 2."},
+    {5, other_points, "decide's points come from the registrar", "the agreed points",
+     "The new item that was verified is decided, with a witness w0, 1 with which it holds. The codeword of w0, 1 has\n"
+     "w0 + point i at position i. The registrar picks each point such that this is the value in the tree under the\n"
+     "new item's root.",
+     "Over the agreed points that root is not the one of w0, 1."},
     {6, not_decided, "the fold of 4 × 5 = 21 is verified only", "decided too",
      "2 × 3 = 6 and 4 × 5 = 21, folded by hand. Verify sees no circuit and no witness.", "Decide refuses the new item."},
     {6, not_verified, "the new item is decided only", "verified too",

@@ -1,6 +1,7 @@
 /* Obligations 5 to 7: which bytes verify and decide get, and what is folded again. */
 #include <string.h>
 
+#include "modp.h"
 #include "obligations.h"
 
 /* 2 * 3 = 6 and 4 * 5 = 21, folded by hand at the next challenge with the quotient that is there, and opened at k different positions. */
@@ -60,6 +61,28 @@ void other_sizes(struct tally *without, struct tally *with) {
     fold_next(&f, &house);
     count(without, verify(&f, without), decide(&resized, &f.out, without));
     count(with, verify(&f, with), decide(&with_one, &f.out, with));
+  }
+}
+
+/* Points over which the codeword of (first, 1) has the values that a witness has over the agreed ones: first + point i is value i. */
+static void make_points_for(const uint8_t *witness, uint32_t first, uint8_t points[LOMVUZE_POINTS_BYTES(2)]) {
+  uint8_t codeword[LOMVUZE_CODEWORD_BYTES(2)], root[LOMVUZE_DIGEST_BYTES];
+  need("encode", lomvuze_encode(2, LOMVUZE_BUILT_IN_POINTS, witness, LOMVUZE_WITNESS_BYTES(2), codeword, sizeof codeword, root, sizeof root));
+  for (size_t i = 0; i < 8; i++) put(points, i, minus(number(codeword, i), first));
+}
+
+/* 5. The item that is decided is the one that is verified, with the witness of its twin. Over points made for it, that one has the same root. */
+void other_points(struct tally *without, struct tally *with) {
+  struct fold f = false_fold(4);
+  struct picker house = FIRST_PICKS;
+  for (int i = 0; i < CHALLENGES; i++) {
+    uint8_t points[LOMVUZE_POINTS_BYTES(2)];
+    fold_next(&f, &house);
+    struct pair other = f.out, holds = twin(&f.out);
+    memcpy(other.witness, holds.witness, sizeof other.witness);
+    make_points_for(f.out.witness, number(other.witness, 0), points);
+    count(without, verify(&f, without), decide_over(points, sizeof points, &product, &other, without));
+    count(with, verify(&f, with), decide(&product, &other, with));
   }
 }
 

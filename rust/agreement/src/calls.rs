@@ -1,5 +1,5 @@
 //! What the calls answer, and what their output buffers then hold: damaged input that is refused before anything is hashed,
-//! and encoding and deciding for the one witness whose tree is worked out.
+//! and encoding and deciding for the one witness whose trees are worked out.
 
 use crate::claims::combined;
 use crate::inputs::{edges, honest_calls, worked_out};
@@ -25,24 +25,24 @@ impl Call {
         let b = &mut self.buffers;
         match self.name {
             "encode" => {
-                let [w, code, root] = &mut b[..] else { panic!() };
-                calls::encode(n[0], w, code, root)
+                let [points, w, code, root] = &mut b[..] else { panic!() };
+                calls::encode(n[0], points, w, code, root)
             }
             "cast" => {
-                let [a, b, c, r, x, w, item] = &mut b[..] else { panic!() };
-                calls::cast(n[0], n[1], n[2], a, b, c, r, x, w, item)
+                let [points, a, b, c, r, x, w, item] = &mut b[..] else { panic!() };
+                calls::cast(n[0], n[1], n[2], points, a, b, c, r, x, w, item)
             }
             "quotient" => {
-                let [a, b, c, items, wits, quotient] = &mut b[..] else { panic!() };
-                calls::quotient(n[0], n[1], n[2], n[3], a, b, c, items, wits, quotient)
+                let [points, a, b, c, items, wits, quotient] = &mut b[..] else { panic!() };
+                calls::quotient(n[0], n[1], n[2], n[3], points, a, b, c, items, wits, quotient)
             }
             "fold" => {
-                let [a, b, c, items, wits, quotient, item, wit] = &mut b[..] else { panic!() };
-                calls::fold(n[0], n[1], n[2], n[3], n[4], a, b, c, items, wits, quotient, item, wit)
+                let [points, a, b, c, items, wits, quotient, item, wit] = &mut b[..] else { panic!() };
+                calls::fold(n[0], n[1], n[2], n[3], n[4], points, a, b, c, items, wits, quotient, item, wit)
             }
             "«open»" => {
-                let [w, positions, openings] = &mut b[..] else { panic!() };
-                calls::open(n[0], n[1], w, positions, openings)
+                let [points, w, positions, openings] = &mut b[..] else { panic!() };
+                calls::open(n[0], n[1], points, w, positions, openings)
             }
             "interleave" => {
                 let [opened, openings] = &mut b[..] else { panic!() };
@@ -53,11 +53,16 @@ impl Call {
                 calls::verify(n[0], n[1], n[2], n[3], n[4], n[5], items, positions, quotient, item, openings)
             }
             "decide" => {
-                let [a, b, c, item, wit] = &b[..] else { panic!() };
-                calls::decide(n[0], n[1], n[2], a, b, c, item, wit)
+                let [points, a, b, c, item, wit] = &b[..] else { panic!() };
+                calls::decide(n[0], n[1], n[2], points, a, b, c, item, wit)
             }
             name => panic!("{name}"),
         }
+    }
+
+    /// Whether the first buffer holds points.
+    pub fn takes_points(&self) -> bool {
+        !matches!(self.name, "interleave" | "verify")
     }
 
     /// The definition's result in which the call answers this and its outputs hold what the buffers hold now.
@@ -81,17 +86,18 @@ impl Call {
     fn equation(mut self) -> (u32, Equation) {
         let arguments = self.arguments();
         let answer = self.run();
-        let tests = "every allBelow numbers";
+        let tests = TESTS;
+        // The trees of the one witness: at the built-in points, and at the lent ones.
+        let lent = if self.buffers[0].is_empty() { "" } else { "lent-" };
         let (unfolding, proof) = match (self.name, answer) {
             ("encode", 0) => (
                 format!("encodeOver {tests} bytes val ofℕ"),
-                "λ i. record { answer = 0; code = bytes (map val (codeword-is i)); root = root-is i }"
-                    .to_string(),
+                format!("λ i. record {{ answer = 0; code = bytes (map val ({lent}codeword-is i)); root = {lent}root-is i }}"),
             ),
             ("cast", 11) => (format!("{tests} babyBear val ofℕ"), format!("cast-runs {arguments} ∙ refl")),
             ("decide", 0 | 10 | 11) => (
                 format!("{tests} itemAt babyBear val ofℕ"),
-                format!("decide-runs {arguments} _ root-is ∙ refl"),
+                format!("decide-runs {arguments} _ {lent}root-is ∙ refl"),
             ),
             ("verify", 7) => (
                 format!("{tests} depth itemAt val"),
@@ -112,25 +118,26 @@ impl Call {
     }
 
     /// The call's name and answer, and an equation that the prover can run: for what is not refused before hashing, that
-    /// the call passes its checks 2 to 6.
+    /// the call passes its checks 2 to 6 and 12.
     fn runnable(self) -> (&'static str, u32, Equation) {
         let (name, passes_early) = (self.name, self.passes_early());
         let (answer, equation) = self.equation();
         (name, answer, if runs_unhashed(name, answer) { equation } else { passes_early })
     }
 
-    /// The equation that says that the call passes its checks 2 to 6.
+    /// The equation that says that the call passes its checks 2 to 6 and 12.
     fn passes_early(&self) -> Equation {
         let (name, early) = match self.name {
-            "encode" => ("encode", 2),
-            "fold" | "verify" => (self.name, 4),
-            "«open»" => ("open", 3),
-            name => (name, 3),
+            "encode" => ("encode", 3),
+            "fold" => ("fold", 5),
+            "«open»" => ("open", 4),
+            "interleave" => ("interleave", 1),
+            name => (name, 4),
         };
         Equation {
             left: format!("answer (take {early} ({name}Checks {}))", self.arguments()),
             right: "0".to_string(),
-            unfolding: "every allBelow numbers depth".to_string(),
+            unfolding: format!("{TESTS} depth"),
             proof: "refl".to_string(),
         }
     }
@@ -158,12 +165,15 @@ impl Call {
     }
 }
 
+/// The definitions that the tests of the checks are computed by.
+const TESTS: &str = "every allBelow allDifferent numbers";
+
 /// How many equations each call gets for each answer.
 const EACH: usize = 6;
 
 /// Whether the prover can run the call: it hashes nothing, or is refused before it does.
 fn runs_unhashed(name: &str, answer: u32) -> bool {
-    (2..7).contains(&answer) || matches!((name, answer), ("cast", 11) | ("verify", 7) | ("interleave", 0))
+    matches!(answer, 2..=6 | 12) || matches!((name, answer), ("cast", 11) | ("verify", 7) | ("interleave", 0))
 }
 
 pub fn answers() -> File {
@@ -190,7 +200,7 @@ pub fn answers() -> File {
 use mathlib.Core.Path.{_≡_, refl, _∙_}
 use mathlib.Core.List.{List, [], _∷_, map}
 use Rattle.field.specs.BabyBear.{babyBear, val, ofℕ}
-use Rattle.numbers.specs.Numbers.{numbers, allBelow, bytes}
+use Rattle.numbers.specs.Numbers.{numbers, allBelow, allDifferent, bytes}
 use Rattle.code.specs.Points.{depth}
 use lib.ListN.{take}
 use Rattle.theory.specs.Checks.{every, answer}
@@ -201,7 +211,7 @@ use Rattle.theory.specs.Fp.{encodeChecks, castChecks, quotientChecks, foldCheck
 use Rattle.agreement.specs.Elements.{listed}
 use Rattle.agreement.specs.Runs.{cast-runs, decide-runs, verify-runs}
 use Rattle.agreement.specs.Inverses.{inverse-0-1, inverse-1-0}
-use Rattle.agreement.specs.Digests.{equation-16 as codeword-is, equation-17 as root-is}
+use Rattle.agreement.specs.Digests.{equation-16 as codeword-is, equation-17 as root-is, equation-34 as lent-codeword-is, equation-35 as lent-root-is}
 "
     .to_string();
     File { name: "Answers", head, equations }

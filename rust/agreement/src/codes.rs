@@ -1,9 +1,10 @@
 //! Points, codewords, entries and digests.
 
+use crate::instance::element_bytes;
 use crate::text::{elements, list, numbers, Equation, File};
-use lomvuze_reference::field::Element;
+use lomvuze_reference::field::{Element, P};
 use lomvuze_reference::{code, sha256, tree};
-use lomvuze_samples::Random;
+use lomvuze_samples::{number_at, points as samples, Random};
 
 /// The reference's points, proved to be the definition's: first the table of 256, then every (64 / k)-th of them.
 pub fn points() -> String {
@@ -18,7 +19,7 @@ use Rattle.code.proofs.Taken.{taken-points}
 use Rattle.agreement.specs.Elements.{listed}
 "
     .to_string();
-    let table = |k| list((0..4 * k).map(|i| code::point(k, i).number()));
+    let table = |k| numbers(&code::built_in_points(k));
     text += &format!(
         "\nabbrev pub table : List ℕ\ntable = {}\n\npub whole : table ≡ map val (points 64)\nunfolding powersFrom\nwhole = table-points table refl tt\n",
         table(64)
@@ -32,28 +33,45 @@ use Rattle.agreement.specs.Elements.{listed}
     text
 }
 
-fn codeword_of(w: &[Element]) -> Equation {
-    let k = w.len();
-    Equation {
-        left: format!("map val (codewordOf {k} {})", elements(w)),
-        right: numbers(&code::codeword(w)),
-        unfolding: "codeword valueAt val".to_string(),
-        proof: format!("rw (points-{k}) (unfold babyBear val ofℕ pow in refl)"),
+/// The points that a call uses which is lent these bytes.
+pub fn used(k: usize, lent: &[u8]) -> Vec<Element> {
+    match lent {
+        [] => code::built_in_points(k),
+        _ => lent.chunks(4).map(|point| Element::new(number_at(point, 0)).unwrap()).collect(),
     }
 }
 
-/// Case 9, and random witnesses.
+/// The codeword of w where these points are lent, none for the built-in ones.
+fn codeword_of(lent: &[u8], w: &[Element]) -> Equation {
+    let k = w.len();
+    let computed = "unfold babyBear val ofℕ pow in refl";
+    Equation {
+        left: format!("map val (codewordOf {k} {} {})", list(lent), elements(w)),
+        right: numbers(&code::codeword(&used(k, lent), w)),
+        unfolding: "codeword valueAt numbers val".to_string(),
+        proof: if lent.is_empty() { format!("rw (points-{k}) ({computed})") } else { computed.to_string() },
+    }
+}
+
+/// Case 9, the same witness at other points, and random witnesses at the built-in points and at random ones.
 pub fn codewords() -> File {
     let random = &mut Random::new(5);
-    let mut equations = vec![codeword_of(&witness())];
+    let mut equations = vec![codeword_of(&[], &witness()), codeword_of(&lent(), &witness())];
     for (k, count) in [(2, 30), (4, 15), (8, 4), (16, 1)] {
-        equations.extend((0..count).map(|_| codeword_of(&random.elements(k))));
+        equations.extend((0..count).map(|_| codeword_of(&[], &random.elements(k))));
+    }
+    for (k, count) in [(2, 12), (4, 6), (8, 2)] {
+        for _ in 0..count {
+            let points = samples::different(random, k);
+            equations.push(codeword_of(&points, &random.elements(k as usize)));
+        }
     }
     let head = "-- Codewords of witnesses.
 use mathlib.Core.Path.{_≡_, refl}
 use mathlib.Core.List.{List, [], _∷_, map}
 use Rattle.algebra.specs.Polynomial.{pow}
 use Rattle.field.specs.BabyBear.{babyBear, val, ofℕ}
+use Rattle.numbers.specs.Numbers.{numbers}
 use Rattle.code.specs.Codeword.{codeword, valueAt}
 use Rattle.theory.specs.Fp.{codewordOf}
 use Rattle.agreement.specs.Elements.{listed}
@@ -90,12 +108,43 @@ pub fn witness() -> Vec<Element> {
     [2, 3].map(Element::reduce).to_vec()
 }
 
-/// Every digest of the tree over one codeword, from the leaves upwards, and then the root of that witness's codeword.
+/// Points to be lent with it, the least and the greatest element among them.
+pub fn lent() -> Vec<u8> {
+    element_bytes(&[0, 1, P - 1, 7, 2, 1_000_000_007, P - 2, 3].map(|point| Element::new(point).unwrap()))
+}
+
+/// Every digest of the tree over the witness's codeword, from the leaves upwards, and then its root and that codeword's,
+/// for the built-in points and for the lent ones.
 pub fn digests() -> File {
+    let mut equations = vec![];
+    for (points, codeword_numbers) in [(vec![], "codeword-numbers"), (lent(), "lent-codeword-numbers")] {
+        digests_at(&points, codeword_numbers, &mut equations);
+    }
+    let head = "-- The digests of the trees over two codewords of one witness, their roots, and the codewords as elements.
+use mathlib.Core.Path.{_≡_, refl, sym, _∙_, ap, ap₂}
+use mathlib.Core.List.{List, [], _∷_}
+use Prim.Native.Nat.{ℕ}
+use Rattle.field.specs.BabyBear.{babyBear, F, val, ofℕ}
+use Rattle.hash.specs.Word.{ROTR, Ch, Maj, Σ₀, Σ₁, σ₀, σ₁}
+use Rattle.hash.specs.Sha256.{digest, bytes, hash, pad, words, compress, inBytes, upTo, K, H₀, zeros, padding, scheduled, schedule, roundWith, rounds, sum}
+use Rattle.tree.specs.Merkle.{leafString, nodeString, root}
+use Rattle.tree.specs.Entry.{entry}
+use Rattle.code.specs.Points.{depth}
+use Rattle.theory.specs.Items.{leaves}
+use Rattle.theory.specs.Fp.{sha, codewordOf, witnessRoot}
+use Rattle.agreement.specs.Elements.{listed}
+use Rattle.agreement.specs.Runs.{numbers-of}
+use Rattle.agreement.specs.Codewords.{equation-0 as codeword-numbers, equation-1 as lent-codeword-numbers}
+"
+    .to_string();
+    File { name: "Digests", head, equations }
+}
+
+/// The digests of one tree, and what they give: its root; the codeword; the root of the witness.
+fn digests_at(lent: &[u8], codeword_numbers: &str, equations: &mut Vec<Equation>) {
     let shut = "digest bytes hash pad words compress inBytes upTo K H₀ zeros padding scheduled schedule roundWith rounds sum ROTR Ch Maj Σ₀ Σ₁ σ₀ σ₁";
     let w = witness();
-    let codeword = code::codeword(&w);
-    let mut equations = vec![];
+    let codeword = code::codeword(&used(w.len(), lent), &w);
     // A digest of the current level, and the name of the path from the tree's own term to it.
     let mut level: Vec<(sha256::Digest, String)> = vec![];
     for entry in code::entries(&codeword) {
@@ -125,7 +174,7 @@ pub fn digests() -> File {
         level = next;
     }
     let (root, path) = &level[0];
-    let (k, w, codeword) = (w.len(), elements(&w), elements(&codeword));
+    let (k, w, codeword) = (w.len(), format!("{} {}", list(lent), elements(&w)), elements(&codeword));
     equations.push(Equation {
         left: format!("root digest (depth {k}) (leaves babyBear sha {codeword})"),
         right: list(root),
@@ -136,7 +185,7 @@ pub fn digests() -> File {
         left: format!("codewordOf {k} {w}"),
         right: codeword,
         unfolding: "val".to_string(),
-        proof: format!("sym (numbers-of (codewordOf {k} {w})) ∙ ap listed codeword-numbers"),
+        proof: format!("sym (numbers-of (codewordOf {k} {w})) ∙ ap listed {codeword_numbers}"),
     });
     equations.push(Equation {
         left: format!("witnessRoot {k} {w}"),
@@ -148,22 +197,4 @@ pub fn digests() -> File {
             equations.len() - 2
         ),
     });
-    let head = "-- The digests of the tree over the codeword of one witness, its root, and its codeword as elements.
-use mathlib.Core.Path.{_≡_, refl, sym, _∙_, ap, ap₂}
-use mathlib.Core.List.{List, [], _∷_}
-use Prim.Native.Nat.{ℕ}
-use Rattle.field.specs.BabyBear.{babyBear, F, val, ofℕ}
-use Rattle.hash.specs.Word.{ROTR, Ch, Maj, Σ₀, Σ₁, σ₀, σ₁}
-use Rattle.hash.specs.Sha256.{digest, bytes, hash, pad, words, compress, inBytes, upTo, K, H₀, zeros, padding, scheduled, schedule, roundWith, rounds, sum}
-use Rattle.tree.specs.Merkle.{leafString, nodeString, root}
-use Rattle.tree.specs.Entry.{entry}
-use Rattle.code.specs.Points.{depth}
-use Rattle.theory.specs.Items.{leaves}
-use Rattle.theory.specs.Fp.{sha, codewordOf, witnessRoot}
-use Rattle.agreement.specs.Elements.{listed}
-use Rattle.agreement.specs.Runs.{numbers-of}
-use Rattle.agreement.specs.Codewords.{equation-0 as codeword-numbers}
-"
-    .to_string();
-    File { name: "Digests", head, equations }
 }

@@ -6,9 +6,9 @@ use crate::instance::{self, element_bytes, entry_bytes, item_bytes, Instance};
 use lomvuze_reference::claims::{self, Item};
 use lomvuze_reference::code;
 use lomvuze_reference::field::P;
-use lomvuze_samples::{bytes, put, Chain, Honest, Random, REFERENCE};
+use lomvuze_samples::{bytes, number_at, points, put, Chain, Honest, Random, REFERENCE};
 
-/// An honest list of small sizes, and its instance.
+/// An honest list of small sizes, with points or none, and its instance.
 fn honest_list(random: &mut Random) -> (Honest, Instance) {
     let (m, n, k, l) = (random.below(2), 1, 2, 1 + random.below(2));
     let instance = Instance::random(random, m, n, k, l);
@@ -17,13 +17,15 @@ fn honest_list(random: &mut Random) -> (Honest, Instance) {
         n: n as u32,
         k: k as u32,
         l: l as u32,
+        points: vec![],
         a: entry_bytes(&instance.circuit.a),
         b: entry_bytes(&instance.circuit.b),
         c: entry_bytes(&instance.circuit.c),
         items: instance.items.iter().flat_map(item_bytes).collect(),
         witnesses: instance.witnesses.iter().flat_map(|w| element_bytes(w)).collect(),
     };
-    (list, instance)
+    let points = points::any(random, list.k);
+    (list.lent(points), instance)
 }
 
 /// The eight calls for an honest list of small sizes.
@@ -36,7 +38,8 @@ pub fn honest_calls(random: &mut Random) -> Vec<Call> {
 
     let (m, n, k, l) = (list.m, list.n, list.k, list.l);
     let interleaving = interleaving(random, &list);
-    let matrices = [list.a.clone(), list.b.clone(), list.c.clone()];
+    let points = list.points.clone();
+    let matrices = [points.clone(), list.a.clone(), list.b.clone(), list.c.clone()];
     let (item, w) = (&instance.items[0], list.witnesses[..list.witness_length()].to_vec());
     let (r, x) = (element_bytes(&item.r), element_bytes(&item.x));
     let lists = [&matrices[..], &[list.items.clone(), list.witnesses.clone()]].concat();
@@ -49,14 +52,14 @@ pub fn honest_calls(random: &mut Random) -> Vec<Call> {
     };
     let (new, item, wit) = (list.quotient_length(), list.item_length(), list.witness_length());
     vec![
-        call("encode", &[k], vec![w.clone()], &[16 * k as usize, 32], &["code", "root"]),
+        call("encode", &[k], vec![points.clone(), w.clone()], &[16 * k as usize, 32], &["code", "root"]),
         call("cast", &[m, n, k], [&matrices[..], &[r, x, w.clone()]].concat(), &[item], &["item"]),
         call("quotient", &[m, n, k, l], lists.clone(), &[new], &["quotient"]),
         call("fold", &[m, n, k, l, challenge], lists, &[new, item, wit], &["quotient", "item", "wit"]),
         call(
             "«open»",
             &[k, t],
-            vec![w, bytes(&positions)],
+            vec![points, w, bytes(&positions)],
             &[t as usize * list.opening_length()],
             &["openings"],
         ),
@@ -78,22 +81,29 @@ fn interleaving(random: &mut Random, list: &Honest) -> Call {
     }
 }
 
-/// Encoding and deciding for the one witness: items of its own root that hold, that do not, and of other roots.
+/// Encoding and deciding for the one witness, without points and with lent ones: items of its own root that hold, that
+/// do not, and of other roots.
 pub fn worked_out(random: &mut Random) -> Vec<Call> {
+    let mut all = worked_out_at(random, &[], 12);
+    all.extend(worked_out_at(random, &codes::lent(), 6));
+    all
+}
+
+fn worked_out_at(random: &mut Random, lent: &[u8], count: usize) -> Vec<Call> {
     let w = codes::witness();
     let k = w.len() as u32;
-    let wit = element_bytes(&w);
+    let (wit, root) = (element_bytes(&w), code::root(&codes::used(w.len(), lent), &w));
     let mut all = vec![Call {
         name: "encode",
         numbers: vec![k],
-        buffers: vec![wit.clone(), random.bytes(16 * k as usize), random.bytes(32)],
+        buffers: vec![lent.to_vec(), wit.clone(), random.bytes(16 * k as usize), random.bytes(32)],
         outputs: &["code", "root"],
     }];
-    for i in 0..12 {
+    for i in 0..count {
         let (m, n) = (random.below(3), 1 + random.below(2));
         let matrices = instance::circuit(random, m, n + w.len());
         let (r, x) = (random.elements(m), random.elements(n));
-        let mut item = Item { e: claims::value(&matrices, &r, &x, &w), r, x, root: code::root(&w) };
+        let mut item = Item { e: claims::value(&matrices, &r, &x, &w), r, x, root };
         if i % 3 == 1 {
             item.e = random.element();
         }
@@ -104,6 +114,7 @@ pub fn worked_out(random: &mut Random) -> Vec<Call> {
             name: "decide",
             numbers: vec![m as u32, n as u32, k],
             buffers: vec![
+                lent.to_vec(),
                 entry_bytes(&matrices.a),
                 entry_bytes(&matrices.b),
                 entry_bytes(&matrices.c),
@@ -134,9 +145,10 @@ pub fn edges(random: &mut Random) -> Vec<Call> {
             }
         }
         let circuit = matches!(call.name, "cast" | "quotient" | "fold" | "decide");
+        all.extend(edges_of_points(&call));
         for i in 0..call.buffers.len() - call.outputs.len() {
             let last = call.buffers[i].len().saturating_sub(12);
-            let numbers = match (circuit && i < 3, call.name, i) {
+            let numbers = match (circuit && (1..4).contains(&i), call.name, i) {
                 (true, _, _) => vec![
                     (last, rows - 1),
                     (last, rows),
@@ -145,7 +157,7 @@ pub fn edges(random: &mut Random) -> Vec<Call> {
                     (last + 8, P - 1),
                     (last + 8, P),
                 ],
-                (_, "«open»" | "verify", 1) => vec![(0, 4 * k - 1), (0, 4 * k)],
+                (_, "«open»", 2) | (_, "verify", 1) => vec![(0, 4 * k - 1), (0, 4 * k)],
                 _ => vec![(0, P - 1), (0, P)],
             };
             for (at, number) in numbers {
@@ -157,5 +169,25 @@ pub fn edges(random: &mut Random) -> Vec<Call> {
             }
         }
     }
+    all
+}
+
+/// Points where the last one is p - 1 or p, or one repeats another; and points one number short.
+fn edges_of_points(call: &Call) -> Vec<Call> {
+    if !call.takes_points() || call.buffers[0].is_empty() {
+        return vec![];
+    }
+    let (first, last) = (number_at(&call.buffers[0], 0), call.buffers[0].len() - 4);
+    let mut all: Vec<Call> = [(last, P - 1), (last, P), (last, first), (4, first)]
+        .into_iter()
+        .map(|(at, number)| {
+            let mut edge = call.clone();
+            put(&mut edge.buffers[0], at, number);
+            edge
+        })
+        .collect();
+    let mut short = call.clone();
+    short.buffers[0].truncate(last);
+    all.push(short);
     all
 }

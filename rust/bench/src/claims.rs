@@ -1,7 +1,8 @@
 //! Claims and folds with k = 64, and what quotient and fold check alike.
 
 use crate::checks::*;
-use crate::plain::{self, add, mul, root, sub, P};
+use crate::plain::{add, mul, root, sub, P};
+use crate::points::Points;
 
 pub fn row_sums(list: &[u8], z: &[u32]) -> [u32; 64] {
     let mut sums = [0; 64];
@@ -37,24 +38,18 @@ pub fn holds(m: usize, n: usize, circuit: Circuit, item: &[u8], w: &[u8]) -> boo
     claim_value(circuit, &item[4..x], &item[x..x + 4 * n], w) == get(item, 0)
 }
 
-pub fn codeword(w: &[u32; K]) -> [u32; 4 * K] {
-    let mut out = [0; 4 * K];
-    plain::codeword(w, &mut out);
-    out
-}
-
-pub fn witness_codeword(w: &[u8]) -> [u32; 4 * K] {
+pub fn witness_codeword(points: &Points, w: &[u8]) -> [u32; 4 * K] {
     let mut numbers = [0; K];
     load(w, &mut numbers);
-    codeword(&numbers)
+    points.codeword(&numbers)
 }
 
-pub fn witness_root(w: &[u8]) -> [u8; 32] {
-    root(&witness_codeword(w))
+pub fn witness_root(points: &Points, w: &[u8]) -> [u8; 32] {
+    root(&witness_codeword(points, w))
 }
 
-pub fn matches(item: &[u8], w: &[u8]) -> bool {
-    item[item.len() - 32..] == witness_root(w)
+pub fn matches(points: &Points, item: &[u8], w: &[u8]) -> bool {
+    item[item.len() - 32..] == witness_root(points, w)
 }
 
 // ---- Folds
@@ -174,28 +169,36 @@ pub fn write_item(numbers: &[u32], root: &[u8; 32], out: &mut [u8]) {
 
 // ---- Checks of lists
 
-/// Checks 2, 3 and 4 of quotient and fold, apart from the lengths of what they write.
-pub fn check_list(m: u32, n: u32, k: u32, l: u32, circuit: Circuit, items: &[u8], wits: &[u8]) -> u32 {
-    if !sizes(m, n, k) || !(1..=8).contains(&l) || !circuit_fits(circuit) {
-        return 2;
+/// Checks 2, 3, 12 and 4 of quotient and fold, apart from the lengths of what they write.
+pub fn check_list(
+    (m, n, k): (u32, u32, u32),
+    l: u32,
+    points: &[u8],
+    circuit: Circuit,
+    items: &[u8],
+    wits: &[u8],
+) -> Result<Points, u32> {
+    if !sizes(m, n, k) || !(1..=8).contains(&l) || !Points::fit(points) || !circuit_fits(circuit) {
+        return Err(2);
     }
     let (m, n, l) = (m as usize, n as usize, l as usize);
     if items.len() != l * item_length(m, n) || wits.len() != l * 4 * K {
-        return 2;
+        return Err(2);
     }
     if !circuit_below(circuit) || !items_below(m, n, items) || !below(wits) {
-        return 3;
+        return Err(3);
     }
+    let points = Points::check(points)?;
     if !in_order(m, n, circuit) {
-        return 4;
+        return Err(4);
     }
-    0
+    Ok(points)
 }
 
-/// Checks 10 and 11 of quotient and fold.
-pub fn check_claims(m: usize, n: usize, circuit: Circuit, items: &[u8], wits: &[u8]) -> u32 {
+/// Checks 10 and 11 of quotient, fold and decide.
+pub fn check_claims(m: usize, n: usize, points: &Points, circuit: Circuit, items: &[u8], wits: &[u8]) -> u32 {
     let pairs = || items.chunks_exact(item_length(m, n)).zip(wits.chunks_exact(4 * K));
-    if !pairs().all(|(item, w)| matches(item, w)) {
+    if !pairs().all(|(item, w)| matches(points, item, w)) {
         return 10;
     }
     if !pairs().all(|(item, w)| holds(m, n, circuit, item, w)) {

@@ -6,11 +6,11 @@
 //! time, so that other work on the machine disturbs it less.
 
 use bench::measure::best;
-use bench::{calls, plain, plain_sheet};
+use bench::{calls, plain, plain_sheet, points as plain_points};
 use lomvuze_proved as proved;
 use lomvuze_reference::sheet::{write, MOST_BYTES};
 use lomvuze_samples::sheet::{of_length, Buffers, Shape, GREATEST};
-use lomvuze_samples::{library, Call, Honest, Library, Name, Random};
+use lomvuze_samples::{library, points, Call, Honest, Library, Name, Part, Random};
 use lomvuze_verdicts as verdicts;
 use std::hint::black_box;
 
@@ -109,7 +109,7 @@ fn written<T: Copy + Default, const N: usize>(write: impl FnOnce(&mut [T; N])) -
 }
 
 fn compare_code() {
-    let (w, points) = (witness(), plain::POINTS);
+    let (w, table) = (witness(), plain::POINTS);
     compare(
         "codeword at k = 64",
         100,
@@ -121,8 +121,16 @@ fn compare_code() {
         "codeword by sums, k = 64",
         3,
         1,
-        || written::<_, 256>(|out| assert_eq!(proved::codeword_at(black_box(&w), &points, out), 0)),
-        || written::<_, 256>(|out| plain::codeword_at(black_box(&w), &points, out)),
+        || written::<_, 256>(|out| assert_eq!(proved::codeword_at(black_box(&w), &table, out), 0)),
+        || written::<_, 256>(|out| plain::codeword_at(black_box(&w), &table, out)),
+    );
+    let lent = points::built_in(64);
+    compare(
+        "check 12 of 256 points",
+        100,
+        1,
+        || proved::points(64, black_box(&lent)),
+        || plain_points::answer(black_box(&lent)),
     );
 }
 
@@ -144,29 +152,40 @@ fn compare_trees() {
     );
 }
 
-/// Every call.
+/// Calls, and their counts of positions.
+const CALLS: [(&str, Name, usize); 10] = [
+    ("encode", Name::Encode, 1),
+    ("cast", Name::Cast, 1),
+    ("quotient", Name::Quotient, 1),
+    ("fold", Name::Fold, 1),
+    ("open, t = 64", Name::Open, 64),
+    ("open, t = 256", Name::Open, 256),
+    ("interleave, t = 256", Name::Interleave, 256),
+    ("verify, t = 64", Name::Verify, 64),
+    ("verify, t = 256", Name::Verify, 256),
+    ("decide", Name::Decide, 1),
+];
+
+/// Every call, and those that take points with 256 that are lent: then codewords are worked out by sums.
 fn compare_calls() {
     println!("\nThe calls at m = 6, n = 64, k = 64, l = 8 and 1,024 entries in each list");
-    compare_call("encode", Name::Encode, 1);
-    compare_call("cast", Name::Cast, 1);
-    compare_call("quotient", Name::Quotient, 1);
-    compare_call("fold", Name::Fold, 1);
-    compare_call("open, t = 64", Name::Open, 64);
-    compare_call("open, t = 256", Name::Open, 256);
-    compare_call("interleave, t = 256", Name::Interleave, 256);
-    compare_call("verify, t = 64", Name::Verify, 64);
-    compare_call("verify, t = 256", Name::Verify, 256);
-    compare_call("decide", Name::Decide, 1);
+    let mut random = Random::new(1);
+    let list = Honest::greatest(&mut random);
+    for (line, name, t) in CALLS {
+        compare_call(line, name, &list, t);
+    }
+    let lent = list.lent(points::different(&mut random, 64));
+    for (line, name, t) in CALLS.into_iter().filter(|(_, name, _)| name.inputs()[0] == Part::Points) {
+        compare_call(&format!("{line}, lent points"), name, &lent, t);
+    }
 }
 
 const PROVED: Library = library!(verdicts);
 const PLAIN: Library = library!(calls);
 
-/// A call that is accepted, at the greatest sizes.
-fn compare_call(line: &str, name: Name, t: usize) {
-    let mut random = Random::new(1);
-    let list = Honest::greatest(&mut random);
-    let mut by_proved = Call::over(&mut random, name, list, t);
+/// A call that is accepted, for an honest list.
+fn compare_call(line: &str, name: Name, list: &Honest, t: usize) {
+    let mut by_proved = Call::over(&mut Random::new(2), name, list.clone(), t);
     let mut by_plain = by_proved.clone();
     assert_eq!(by_plain.run(&PLAIN), 0);
     let proved = || black_box(&mut by_proved).run(&PROVED);

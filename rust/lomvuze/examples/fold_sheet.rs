@@ -13,7 +13,7 @@
 //! is no file.
 
 use lomvuze::{decide, encode, fold, open, quotient, read_sheet, verify};
-use lomvuze::{Challenge, Circuit, Item, Positions, Refusal, Sheet, Sizes, Witness, MAX_L, P, R};
+use lomvuze::{Challenge, Circuit, Item, Points, Positions, Refusal, Sheet, Sizes, Witness, MAX_L, P, R};
 use std::collections::BTreeSet;
 use std::env::args_os;
 use std::process::ExitCode;
@@ -86,10 +86,10 @@ fn test(
         return Err("not fresh: its e is not 0".into());
     }
     if item.root == [0; 32] {
-        item.root = encode(sizes.k, witness).map_err(said)?.root;
+        item.root = encode(sizes.k, &Points::built_in(), witness).map_err(said)?.root;
     }
     item.r = picks.r(sizes);
-    decide(sizes, circuit, item, witness).map_err(said)
+    decide(sizes, &Points::built_in(), circuit, item, witness).map_err(said)
 }
 
 /// Folds up to 8 items into one, verifies the fold and decides the new item.
@@ -100,22 +100,23 @@ fn run(
     items: &[Item],
     witnesses: &[Witness],
 ) -> Result<(), Refusal> {
-    let quotient = quotient(sizes, circuit, items, witnesses)?;
+    let points = Points::built_in();
+    let quotient = quotient(sizes, &points, circuit, items, witnesses)?;
     let challenge = picks.challenge(items.len() as u32);
     println!("  challenge: {challenge}");
-    let folded = fold(sizes, challenge, circuit, items, witnesses)?;
+    let folded = fold(sizes, challenge, &points, circuit, items, witnesses)?;
     println!("  new item: e = {}, r = {}, x = {}", folded.item.e, folded.item.r, folded.item.x);
 
     let positions = picks.positions(sizes);
     let mut openings = vec![];
     for witness in witnesses.iter().chain([&folded.witness]) {
-        openings.push(open(sizes.k, witness, &positions)?);
+        openings.push(open(sizes.k, &points, witness, &positions)?);
     }
     println!("  openings: {} witnesses at positions {positions}", openings.len());
 
     verify(sizes, challenge, items, &positions, &quotient, &folded.item, &openings)?;
     println!("  verify: accepted");
-    decide(sizes, circuit, &folded.item, &folded.witness)?;
+    decide(sizes, &points, circuit, &folded.item, &folded.witness)?;
     println!("  decide: accepted");
     Ok(())
 }

@@ -8,7 +8,7 @@
 //! refuses, and 2 where the challenge is no number.
 
 use lomvuze::{cast, decide, fold, open, quotient, verify};
-use lomvuze::{Challenge, Circuit, Item, Positions, PublicInputs, Refusal, Sizes, Witness, R};
+use lomvuze::{Challenge, Circuit, Item, Points, Positions, PublicInputs, Refusal, Sizes, Witness, R};
 use std::env::args_os;
 use std::process::ExitCode;
 
@@ -31,20 +31,22 @@ fn run(challenge: Challenge) -> Result<(), Refusal> {
     // One row: w0 × w1 = x0. The columns are x0, w0 and w1; an entry is row, column and value.
     let sizes = Sizes { m: 0, n: 1, k: 2 };
     let circuit = Circuit::new([(0, 1, 1)], [(0, 2, 1)], [(0, 0, 1)]);
+    // The evaluation points that were agreed on: here those of the library.
+    let points = Points::built_in();
     let witnesses = [Witness::from([2, 3]), Witness::from([4, 5])];
     let items = [
-        cast(sizes, &circuit, &R::default(), &PublicInputs::from([6]), &witnesses[0])?,
-        cast(sizes, &circuit, &R::default(), &PublicInputs::from([20]), &witnesses[1])?,
+        cast(sizes, &points, &circuit, &R::default(), &PublicInputs::from([6]), &witnesses[0])?,
+        cast(sizes, &points, &circuit, &R::default(), &PublicInputs::from([20]), &witnesses[1])?,
     ];
     for (i, item) in items.iter().enumerate() {
         print_item(&format!("item {i}"), item);
     }
-    let quotient = quotient(sizes, &circuit, &items, &witnesses)?;
+    let quotient = quotient(sizes, &points, &circuit, &items, &witnesses)?;
     println!("quotient: {quotient}");
 
     // A service picks the challenge now: items and quotient are fixed.
     println!("challenge: {challenge}");
-    let folded = fold(sizes, challenge, &circuit, &items, &witnesses)?;
+    let folded = fold(sizes, challenge, &points, &circuit, &items, &witnesses)?;
     print_item("new item", &folded.item);
     println!("new witness: {}", folded.witness);
 
@@ -52,7 +54,7 @@ fn run(challenge: Challenge) -> Result<(), Refusal> {
     let positions = Positions::from([0, 7, 4]);
     let mut openings = vec![];
     for (i, witness) in witnesses.iter().chain([&folded.witness]).enumerate() {
-        let opened = open(sizes.k, witness, &positions)?;
+        let opened = open(sizes.k, &points, witness, &positions)?;
         for (position, opening) in positions.iter().zip(&opened) {
             println!("opening {i} at {position}: {}, {} digests", opening.value, opening.path.len());
         }
@@ -61,7 +63,7 @@ fn run(challenge: Challenge) -> Result<(), Refusal> {
 
     verify(sizes, challenge, &items, &positions, &quotient, &folded.item, &openings)?;
     println!("verify: accepted");
-    decide(sizes, &circuit, &folded.item, &folded.witness)?;
+    decide(sizes, &points, &circuit, &folded.item, &folded.witness)?;
     println!("decide: accepted");
     println!("covered: 2 of 2 items, 0 and 1");
     Ok(())

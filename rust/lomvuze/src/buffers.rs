@@ -7,7 +7,7 @@
 use crate::sizes::{MAX_ENTRIES, MAX_L, MOST_NUMBERS};
 use crate::{numbers_to_bytes, Circuit, Entry, Item, Opening, Sizes, Witness};
 
-/// r, x, one witness, positions or a quotient.
+/// Points, r, x, one witness, positions or a quotient.
 pub(crate) fn numbers_buffer(numbers: &[u32]) -> Vec<u8> {
     numbers_to_bytes(up_to(numbers, MOST_NUMBERS + 1))
 }

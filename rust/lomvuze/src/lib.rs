@@ -21,6 +21,9 @@
 //! And [`encode`], the codeword and root of a witness, [`interleave`], the openings in the order of a verifier in C,
 //! and [`read_sheet`], sizes, circuit, items and witnesses from a sheet of text.
 //!
+//! All but [`verify`], [`interleave`] and [`read_sheet`] take the evaluation points of the code: [`Points::built_in`], or
+//! the caller's own.
+//!
 //! A call returns the [`Refusal`] of the first of its checks that fails. Each check covers the whole input
 //! before the next one runs.
 //!
@@ -34,6 +37,7 @@
 //!   ([`Positions::count_different`]).
 //! - [`verify`] and [`decide`] get the same sizes and the same new item, [`decide`] the circuit that was agreed on, and
 //!   both accept.
+//! - Every call that takes points is lent the same ones, which were agreed on.
 //! - A verdict covers the items of its fold and no others. More than 8 take several folds: [`examples::fold_sheet`]
 //!   says which are covered.
 //! - Where a new item is folded again, the verdict on the upper fold is about that item. It reaches the items of the
@@ -41,13 +45,13 @@
 //!
 //! ## Types
 //!
-//! Lists of numbers have a type each: [`R`], [`PublicInputs`], [`Witness`], [`Quotient`], [`Positions`]. They are made
-//! from arrays, slices and vectors, and read as slices; none is taken for another:
+//! Lists of numbers have a type each: [`Points`], [`R`], [`PublicInputs`], [`Witness`], [`Quotient`], [`Positions`]. They
+//! are made from arrays, slices and vectors, and read as slices; none is taken for another:
 //!
 //! ```compile_fail
-//! use lomvuze::{encode, Positions};
+//! use lomvuze::{encode, Points, Positions};
 //!
-//! let _ = encode(2, &Positions::from([2, 3])); // positions are no witness
+//! let _ = encode(2, &Points::built_in(), &Positions::from([2, 3])); // positions are no witness
 //! ```
 //!
 //! ## Sizes
@@ -83,7 +87,7 @@ mod values;
 
 pub use calls::{cast, decide, encode, fold, interleave, open, quotient, read_sheet, verify};
 pub use layout::{numbers_from_bytes, numbers_to_bytes};
-pub use lists::{Challenge, Positions, PublicInputs, Quotient, Witness, R};
+pub use lists::{Challenge, Points, Positions, PublicInputs, Quotient, Witness, R};
 pub use refusal::{NoCheck, Refusal};
 pub use sizes::{Sizes, MAX_ENTRIES, MAX_K, MAX_L, MAX_M, MAX_N, MAX_PAIRS, MAX_SHEET, P};
 pub use values::{Circuit, Digest, Encoded, Entry, Folded, Item, Opening, Sheet};

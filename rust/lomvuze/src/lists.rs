@@ -138,6 +138,24 @@ macro_rules! lists {
 }
 
 lists! {
+    /// The evaluation points of the code: 4k different elements, of which number i gives the value at position i; or
+    /// none, which stands for the [built-in](Points::built_in) ones. Every call of a chain is lent the same.
+    ///
+    /// ```
+    /// use lomvuze::{encode, Points, Refusal, Witness, P};
+    ///
+    /// fn main() -> Result<(), Refusal> {
+    ///     let witness = Witness::from([2, 3]);
+    ///     let points = Points::from([0, 1, 2, 3, 4, 5, 6, P - 1]);
+    ///     assert_eq!(encode(2, &points, &witness)?.code, [2, 5, 8, 11, 14, 17, 20, P - 1]);
+    ///
+    ///     let repeated = Points::from([0, 1, 2, 3, 4, 5, 6, 0]);
+    ///     assert_eq!(encode(2, &repeated, &witness), Err(Refusal::Points));
+    ///     Ok(())
+    /// }
+    /// ```
+    Points;
+
     /// r of an item: m elements, which give the weights of the rows. It is picked once x and root are fixed, and
     /// not by whoever hands them in.
     R;
@@ -163,6 +181,20 @@ lists! {
 
     /// The positions at which a fold is opened: 1 to 4k numbers below 4k, of which some may be equal.
     Positions;
+}
+
+impl Points {
+    /// The points of the library: point i is g^i, where g = 31^((p − 1) / 4k). Lent by hand they give the same,
+    /// but a codeword at points that are lent takes longer.
+    ///
+    /// ```
+    /// use lomvuze::Points;
+    ///
+    /// assert_eq!(Points::built_in(), []);
+    /// ```
+    pub fn built_in() -> Points {
+        Points::default()
+    }
 }
 
 impl Positions {

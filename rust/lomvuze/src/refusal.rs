@@ -6,11 +6,12 @@ use std::fmt;
 /// The first check of a call that fails. Later versions may have more checks; the numbers of these stay.
 ///
 /// ```
-/// use lomvuze::{encode, Refusal, Witness, P};
+/// use lomvuze::{encode, Points, Refusal, Witness, P};
 ///
-/// assert!(encode(2, &Witness::from([2, P - 1])).is_ok());
+/// let points = Points::built_in();
+/// assert!(encode(2, &points, &Witness::from([2, P - 1])).is_ok());
 ///
-/// let refusal = encode(2, &Witness::from([2, P])).unwrap_err();
+/// let refusal = encode(2, &points, &Witness::from([2, P])).unwrap_err();
 /// assert_eq!(refusal, Refusal::Element);
 /// assert_eq!(refusal.number(), 3);
 /// assert_eq!(refusal.to_string(), "an element is p or more");
@@ -55,10 +56,13 @@ pub enum Refusal {
 
     /// An item does not hold with its witness.
     Claim = 11,
+
+    /// A point repeats another, or is p or more.
+    Points = 12,
 }
 
 impl Refusal {
-    /// All checks, in order.
+    /// All checks, by their numbers. A call runs its own in the order that its page gives: 12 directly after 3.
     pub const ALL: &'static [Refusal] = &[
         Refusal::Sheet,
         Refusal::Sizes,
@@ -71,6 +75,7 @@ impl Refusal {
         Refusal::Combination,
         Refusal::Root,
         Refusal::Claim,
+        Refusal::Points,
     ];
 
     /// The number of the check: what the call returns in C (`enum lomvuze_answer`).
@@ -93,6 +98,7 @@ impl fmt::Display for Refusal {
             Refusal::Combination => "a new opened value is no combination",
             Refusal::Root => "a root is not that of its witness",
             Refusal::Claim => "an item does not hold",
+            Refusal::Points => "a point repeats another, or is p or more",
         })
     }
 }

@@ -20,7 +20,7 @@ pub const MAX_SHEET: usize = 60_000;
 /// The length of an entry.
 pub(crate) const ENTRY_BYTES: usize = 12;
 
-/// The most numbers that a list of numbers may have: positions, for the greatest k.
+/// The most numbers that a list of numbers may have: points or positions, for the greatest k.
 pub(crate) const MOST_NUMBERS: usize = 4 * MAX_K as usize;
 
 /// The sizes of a circuit and its claims. The methods give the lengths in bytes of what
@@ -58,6 +58,11 @@ impl Sizes {
     /// The levels of the tree over a codeword, log2(4k): the digests of an opening's path.
     pub fn depth(self) -> usize {
         self.k.checked_ilog2().map_or(0, |log| log as usize + 2)
+    }
+
+    /// Points that are lent.
+    pub fn points_bytes(self) -> usize {
+        16 * self.k as usize
     }
 
     /// A witness.

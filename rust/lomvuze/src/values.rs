@@ -91,16 +91,17 @@ impl Item {
     /// statement that the rows hold: it is the result of a fold, or somebody has made it up.
     ///
     /// ```
-    /// use lomvuze::{decide, encode, Circuit, Item, PublicInputs, Refusal, Sizes, Witness, P, R};
+    /// use lomvuze::{decide, encode, Circuit, Item, Points, PublicInputs, Refusal, Sizes, Witness, P, R};
     ///
     /// fn main() -> Result<(), Refusal> {
     ///     // One row: w0 × w1 = x0. And 4 × 5 = 21, which no row says, with the e that makes it hold.
     ///     let sizes = Sizes { m: 0, n: 1, k: 2 };
     ///     let circuit = Circuit::new([(0, 1, 1)], [(0, 2, 1)], [(0, 0, 1)]);
-    ///     let witness = Witness::from([4, 5]);
-    ///     let mut item = Item::new(R::default(), PublicInputs::from([21]), encode(2, &witness)?.root);
+    ///     let (points, witness) = (Points::built_in(), Witness::from([4, 5]));
+    ///     let root = encode(2, &points, &witness)?.root;
+    ///     let mut item = Item::new(R::default(), PublicInputs::from([21]), root);
     ///     item.e = P - 1;
-    ///     decide(sizes, &circuit, &item, &witness)?;
+    ///     decide(sizes, &points, &circuit, &item, &witness)?;
     ///     assert!(!item.is_fresh());
     ///     Ok(())
     /// }

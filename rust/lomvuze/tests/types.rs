@@ -1,7 +1,7 @@
 //! What the types can do, as users expect it.
 
 use lomvuze::{Challenge, Circuit, Encoded, Entry, Folded, Item, NoCheck, Opening, Refusal, Sheet, Sizes};
-use lomvuze::{Positions, PublicInputs, Quotient, Witness, R};
+use lomvuze::{Points, Positions, PublicInputs, Quotient, Witness, R};
 use std::error::Error;
 use std::fmt::{Debug, Display};
 use std::hash::Hash;
@@ -31,6 +31,7 @@ where
 
 #[test]
 fn lists() {
+    list::<Points>();
     list::<R>();
     list::<PublicInputs>();
     list::<Witness>();
@@ -62,6 +63,6 @@ fn conversions() {
     assert!(Entry::from((0, 9, 9)) < entry && Entry::from((1, 1, 9)) < entry);
     assert_eq!(u32::from(Challenge::from(7)), 7);
     assert_eq!(Circuit::default(), Circuit::new::<Entry>([], [], []));
-    let error: Box<dyn Error> = Refusal::try_from(12).unwrap_err().into();
-    assert_eq!(error.to_string(), "no check has the number 12");
+    let error: Box<dyn Error> = Refusal::try_from(13).unwrap_err().into();
+    assert_eq!(error.to_string(), "no check has the number 13");
 }

@@ -45,6 +45,7 @@ mod exported {
             out: *mut u32,
             size: usize,
         ) -> u32;
+        pub fn lomvuze_test_points(k: u32, points: *const u8, length: usize) -> u32;
 
         pub fn lomvuze_test_listing(sheet: *const u8, length: usize, out: *mut u8, size: usize) -> usize;
     }
@@ -147,6 +148,11 @@ pub fn codeword_at(w: &[u32], points: &[u32], out: &mut [u32]) -> u32 {
             out.len(),
         )
     }
+}
+
+/// Checks 2 and 12 of the points that are lent for k witness numbers: 0, or the first that fails.
+pub fn points(k: u32, points: &[u8]) -> u32 {
+    unsafe { lomvuze_test_points(k, points.as_ptr(), points.len()) }
 }
 
 // ---- Sheets.

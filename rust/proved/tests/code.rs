@@ -45,7 +45,8 @@ fn codewords() {
     for k in COUNTS {
         let random = (0..100).map(|_| numbers(&random.elements(k)));
         for w in edges(k).into_iter().chain(random) {
-            assert_eq!(codeword(&w), numbers(&code::codeword(&elements(&w))), "w = {w:?}");
+            let expected = code::codeword(&code::built_in_points(k), &elements(&w));
+            assert_eq!(codeword(&w), numbers(&expected), "w = {w:?}");
         }
     }
 }
@@ -54,10 +55,11 @@ fn codewords() {
 #[test]
 fn powers_of_the_points() {
     for k in COUNTS {
+        let points = code::built_in_points(k);
         for j in 0..k {
             let mut w = vec![0; k];
             w[j] = 1;
-            let powers: Vec<Element> = (0..4 * k).map(|i| code::point(k, i).pow(j as u64)).collect();
+            let powers: Vec<Element> = points.iter().map(|point| point.pow(j as u64)).collect();
             assert_eq!(codeword(&w), numbers(&powers), "k = {k}, j = {j}");
         }
     }
@@ -120,7 +122,7 @@ fn sums_at_the_built_in_points() {
     let mut random = Random::new(3);
     for k in COUNTS {
         let w = numbers(&random.elements(k));
-        let points: Vec<u32> = (0..4 * k).map(|i| code::point(k, i).number()).collect();
+        let points = numbers(&code::built_in_points(k));
         let codeword = codeword(&w);
         assert_eq!(codeword_at(&w, &points), codeword, "k = {k}");
         for order in orders {
@@ -144,6 +146,45 @@ fn refusals_of_sums_write_nothing() {
             let answer = proved::codeword_at(&w, &vec![2; count], &mut out);
             assert_eq!(answer, if permitted { 0 } else { 1 }, "w = {w:?}, {count} points, {size} values");
             assert!(permitted || out == vec![7; size]);
+        }
+    }
+}
+
+// ---- Lent points
+
+fn bytes(points: &[u32]) -> Vec<u8> {
+    points.iter().flat_map(|point| point.to_le_bytes()).collect()
+}
+
+/// Every pair of positions is compared, and every point with p.
+#[test]
+fn points_repeat_or_are_too_large() {
+    for k in COUNTS {
+        let points = numbers(&code::built_in_points(k));
+        let changed = |i: usize, point: u32| {
+            let mut points = points.clone();
+            points[i] = point;
+            proved::points(k as u32, &bytes(&points))
+        };
+        assert_eq!(proved::points(k as u32, &bytes(&points)), 0);
+        for i in 0..4 * k {
+            for (j, point) in points.iter().enumerate() {
+                assert_eq!(changed(i, *point), if i == j { 0 } else { 12 }, "k = {k}, {i} and {j}");
+            }
+            for (point, answer) in [(0, 0), (P, 12), (P + 1, 12), (u32::MAX, 12)] {
+                assert_eq!(changed(i, point), answer, "k = {k}, {point} at {i}");
+            }
+        }
+    }
+}
+
+#[test]
+fn points_of_other_counts() {
+    let bytes = bytes(&(0..2000).collect::<Vec<u32>>());
+    for k in 0..100 {
+        for length in 0..bytes.len() {
+            let fits = COUNTS.contains(&k) && (length == 0 || length == 16 * k);
+            assert_eq!(proved::points(k as u32, &bytes[..length]), if fits { 0 } else { 2 });
         }
     }
 }

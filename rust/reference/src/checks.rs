@@ -79,6 +79,11 @@ pub(crate) fn opening_length(k: usize) -> usize {
     4 + 32 * (4 * k).ilog2() as usize
 }
 
+/// No points, or 4k numbers.
+pub(crate) fn points_length(points: &[u8], k: usize) -> Result<(), Refusal> {
+    check(2, points.is_empty() || points.len() == 16 * k)
+}
+
 /// The greatest count of entries in a list.
 pub(crate) const MOST_ENTRIES: usize = 1024;
 
@@ -158,7 +163,25 @@ pub(crate) fn openings(bytes: &[u8], k: usize) -> Result<Vec<Opening>, Refusal> 
     bytes.chunks(opening_length(k)).map(opening).collect()
 }
 
-// ---- Checks 4 to 6, 10 and 11.
+// ---- Check 12: points.
+
+/// The points that a call uses: the built-in ones where none are lent, and else the lent ones, of which none is p or
+/// more and none repeats another.
+pub(crate) fn check_points(lent: &[u8], k: usize) -> Result<Vec<Element>, Refusal> {
+    if lent.is_empty() {
+        return Ok(code::built_in_points(k));
+    }
+    let points: Vec<Element> = numbers(lent)
+        .into_iter()
+        .map(|number| Element::new(number).ok_or(12))
+        .collect::<Result<_, Refusal>>()?;
+    for (i, point) in points.iter().enumerate() {
+        check(12, !points[..i].contains(point))?;
+    }
+    Ok(points)
+}
+
+// ---- Checks 4 to 6.
 
 /// 4: every entry is inside rows and columns and in order.
 pub(crate) fn check_circuit(circuit: &Circuit, m: usize, n: usize, k: usize) -> Result<(), Refusal> {
@@ -176,20 +199,6 @@ pub(crate) fn check_positions(positions: &[u8], k: usize) -> Result<Vec<usize>, 
     let positions = numbers(positions);
     check(6, positions.iter().all(|position| (*position as usize) < 4 * k))?;
     Ok(positions.into_iter().map(|position| position as usize).collect())
-}
-
-/// 10: every item's root is that of its witness's codeword.
-pub(crate) fn check_roots(items: &[Item], witnesses: &[Vec<Element>]) -> Result<(), Refusal> {
-    check(10, items.iter().zip(witnesses).all(|(item, w)| claims::matches(item, w)))
-}
-
-/// 11: every item holds with its witness.
-pub(crate) fn check_claims(
-    circuit: &Circuit,
-    items: &[Item],
-    witnesses: &[Vec<Element>],
-) -> Result<(), Refusal> {
-    check(11, items.iter().zip(witnesses).all(|(item, w)| claims::holds(circuit, item, w)))
 }
 
 // ---- Writing.

@@ -83,9 +83,9 @@ pub fn holds(circuit: &Circuit, item: &Item, w: &[Element]) -> bool {
     value(circuit, &item.r, &item.x, w) == item.e
 }
 
-/// Whether an item matches a witness.
-pub fn matches(item: &Item, w: &[Element]) -> bool {
-    code::root(w) == item.root
+/// Whether an item matches a witness: its root is that of the codeword at these points.
+pub fn matches(points: &[Element], item: &Item, w: &[Element]) -> bool {
+    code::root(points, w) == item.root
 }
 
 /// Node i of a fold.

@@ -1,24 +1,18 @@
-//! The code: a witness of k numbers becomes a codeword of 4k values.
+//! The code: a witness of k numbers becomes a codeword of 4k values, one for each point.
 
 use crate::field::{Element, P};
 use crate::sha256::Digest;
 use crate::tree;
 
-/// Point i of the code for k witness numbers: g^i with g = 31^((p - 1) / 4k).
-pub fn point(k: usize, i: usize) -> Element {
+/// The built-in points of the code for k witness numbers: point i is g^i, with g = 31^((p - 1) / 4k).
+pub fn built_in_points(k: usize) -> Vec<Element> {
     let g = Element::reduce(31).pow((P as u64 - 1) / (4 * k as u64));
-    g.pow(i as u64)
+    (0..4 * k).map(|i| g.pow(i as u64)).collect()
 }
 
-/// The codeword of w: at position i, the sum of w_j × (point i)^j.
-pub fn codeword(w: &[Element]) -> Vec<Element> {
-    let k = w.len();
-    (0..4 * k)
-        .map(|i| {
-            let x = point(k, i);
-            (0..k).map(|j| w[j] * x.pow(j as u64)).sum()
-        })
-        .collect()
+/// The codeword of w at these points: at position i, the sum of w_j × (point i)^j.
+pub fn codeword(points: &[Element], w: &[Element]) -> Vec<Element> {
+    points.iter().map(|point| (0..w.len()).map(|j| w[j] * point.pow(j as u64)).sum()).collect()
 }
 
 /// The entry of a value: its position in four bytes, lowest first, followed by the value, likewise.
@@ -34,7 +28,7 @@ pub fn entries(codeword: &[Element]) -> Vec<[u8; 8]> {
     codeword.iter().enumerate().map(|(position, value)| entry(position, *value)).collect()
 }
 
-/// The root of the tree over a witness's codeword.
-pub fn root(w: &[Element]) -> Digest {
-    tree::root(&entries(&codeword(w)))
+/// The root of the tree over a witness's codeword at these points.
+pub fn root(points: &[Element], w: &[Element]) -> Digest {
+    tree::root(&entries(&codeword(points, w)))
 }

@@ -2,7 +2,8 @@
 
 use lomvuze_reference::claims::{self, Circuit, Entry, Item};
 use lomvuze_reference::code;
-use lomvuze_reference::field::{Element, ZERO};
+use lomvuze_reference::field::{Element, P, ZERO};
+use lomvuze_reference::sha256::Digest;
 
 fn element(number: u32) -> Element {
     Element::new(number).unwrap()
@@ -21,10 +22,15 @@ fn circuit() -> Circuit {
     Circuit { a: one(1), b: one(2), c: one(0) }
 }
 
+/// The root of a witness at the built-in points.
+fn root(w: &[Element]) -> Digest {
+    code::root(&code::built_in_points(w.len()), w)
+}
+
 /// The item and the witness of x; w with e = 0 and m = 0.
 fn claim(x: u32, w: [u32; 2]) -> (Item, Vec<Element>) {
     let w = elements(&w);
-    (Item { e: ZERO, r: vec![], x: elements(&[x]), root: code::root(&w) }, w)
+    (Item { e: ZERO, r: vec![], x: elements(&[x]), root: root(&w) }, w)
 }
 
 fn value(x: u32, w: [u32; 2]) -> u32 {
@@ -80,7 +86,7 @@ fn c8_an_item_that_does_not_hold() {
 
 #[test]
 fn c9_codeword() {
-    let codeword = code::codeword(&elements(&[2, 3]));
+    let codeword = code::codeword(&code::built_in_points(2), &elements(&[2, 3]));
     assert_eq!(codeword.len(), 8);
     assert_eq!(codeword[0].number(), 5);
     assert_eq!(codeword[4].number(), 2013265920);
@@ -92,24 +98,32 @@ fn c10_one_item() {
     let (items, witnesses) = ([item], [w]);
     assert_eq!(claims::quotient(&circuit(), &items, &witnesses).unwrap(), []);
     assert_eq!(fold(&items, &witnesses, &[], 1), (vec![6], vec![2, 3], 0));
-    assert_eq!(code::root(&claims::fold_witness(&witnesses, element(1))), items[0].root);
+    assert_eq!(root(&claims::fold_witness(&witnesses, element(1))), items[0].root);
 }
 
 /// The 256 points for k = 64: the first is 1, each is the one before times one root, and a smaller k takes
 /// every (64/k)-th of them.
 #[test]
 fn points() {
-    let all: Vec<Element> = (0..256).map(|i| code::point(64, i)).collect();
+    let all = code::built_in_points(64);
+    assert_eq!(all.len(), 256);
     assert_eq!(all[0].number(), 1);
     for i in 1..256 {
         assert_eq!(all[i], all[i - 1] * all[1]);
         assert!(!all[..i].contains(&all[i]));
     }
     for k in [2, 4, 8, 16, 32, 64] {
-        for i in 0..4 * k {
-            assert_eq!(code::point(k, i), all[i * (64 / k)]);
-        }
+        let every = all.iter().step_by(64 / k).copied().collect::<Vec<_>>();
+        assert_eq!(code::built_in_points(k), every);
     }
+}
+
+/// A codeword at other points, 0 and p - 1 among them: 2 + 3 × point.
+#[test]
+fn codeword_at_other_points() {
+    let points = elements(&[0, P - 1, 5, 1, 2, 3, 4, 6]);
+    let codeword = code::codeword(&points, &elements(&[2, 3]));
+    assert_eq!(numbers(&codeword), [2, P - 1, 17, 5, 8, 11, 14, 20]);
 }
 
 /// The value as a polynomial meets the value at each challenge, and the quotient has one list of

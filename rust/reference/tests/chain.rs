@@ -2,7 +2,7 @@
 
 use lomvuze_reference::calls;
 use lomvuze_reference::field::P;
-use lomvuze_samples::{number_at, put, Chain, Honest, Random, REFERENCE};
+use lomvuze_samples::{number_at, points, put, Chain, Honest, Random, REFERENCE};
 
 fn random_chain(random: &mut Random, list: &Honest) -> Chain {
     let challenge = list.l + random.below((P - list.l) as usize) as u32;
@@ -25,7 +25,9 @@ fn honest_lists_pass() {
 #[test]
 fn all_positions_and_largest_sizes() {
     let mut random = Random::new(2);
-    for list in [Honest::random(&mut random, 6, 64, 64, 8), Honest::random(&mut random, 0, 1, 2, 1)] {
+    let greatest = Honest::random(&mut random, 6, 64, 64, 8);
+    let points = points::different(&mut random, 64);
+    for list in [greatest.clone(), greatest.lent(points), Honest::random(&mut random, 0, 1, 2, 1)] {
         let all: Vec<u32> = (0..4 * list.k).collect();
         for challenge in [list.l, P - 1] {
             let chain = Chain::new(&REFERENCE, &list, challenge, &all);
@@ -56,7 +58,8 @@ fn bump(buffer: &mut [u8], at: usize) {
 fn damaged_folds_are_refused() {
     let mut random = Random::new(4);
     for _ in 0..20 {
-        let list = Honest::random(&mut random, 2, 3, 4, 3);
+        let points = points::any(&mut random, 4);
+        let list = Honest::random(&mut random, 2, 3, 4, 3).lent(points);
         let chain = random_chain(&mut random, &list);
         let item = 4 * random.below(6);
 
@@ -85,11 +88,11 @@ fn damaged_folds_are_refused() {
         let mut damaged = chain.clone();
         let w: Vec<u8> = other.witnesses[..list.witness_length()].to_vec();
         let (mut code, mut root) = (vec![0; 16 * list.k as usize], vec![0; 32]);
-        assert_eq!(calls::encode(list.k, &w, &mut code, &mut root), 0);
+        assert_eq!(calls::encode(list.k, &list.points, &w, &mut code, &mut root), 0);
         let end = damaged.new_item.len();
         damaged.new_item[end - 32..].copy_from_slice(&root);
         let mut openings = vec![0; chain.t as usize * list.opening_length()];
-        assert_eq!(calls::open(list.k, chain.t, &w, &chain.positions, &mut openings), 0);
+        assert_eq!(calls::open(list.k, chain.t, &list.points, &w, &chain.positions, &mut openings), 0);
         for (q, opening) in openings.chunks(list.opening_length()).enumerate() {
             let at = (q * 4 + 3) * list.opening_length();
             damaged.openings[at..at + opening.len()].copy_from_slice(opening);

@@ -1,6 +1,6 @@
 //! The vectors of FIPS 180-4 and of RFC 6962 trees, and trees over values, whose entries name their positions.
 
-use lomvuze_reference::code::{codeword, entries, entry};
+use lomvuze_reference::code::{built_in_points, codeword, entries, entry};
 use lomvuze_reference::field::{Element, P, ZERO};
 use lomvuze_reference::sha256::{digest, initial_value, round_constants, Digest};
 use lomvuze_reference::tree::{leads_to, leaf, node, path, root};
@@ -94,7 +94,8 @@ fn entries_by_hand() {
     assert_eq!(entry(0, element(5)), [0, 0, 0, 0, 5, 0, 0, 0]);
     assert_eq!(entry(258, element(P - 1)), [2, 1, 0, 0, 0, 0, 0, 0x78]);
     assert_eq!(entry(0x01020304, element(0x05060708)), [4, 3, 2, 1, 8, 7, 6, 5]);
-    let all = entries(&codeword(&[vec![element(7)], vec![ZERO; 63]].concat()));
+    let w = [vec![element(7)], vec![ZERO; 63]].concat();
+    let all = entries(&codeword(&built_in_points(64), &w));
     assert_eq!(all.len(), 256);
     assert_eq!([all[0], all[255]], [[0, 0, 0, 0, 7, 0, 0, 0], [255, 0, 0, 0, 7, 0, 0, 0]]);
 }

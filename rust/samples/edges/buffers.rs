@@ -13,6 +13,7 @@ pub struct Buffers {
     pub l: u32,
     pub t: u32,
     pub challenge: u32,
+    pub points: Vec<u8>,
     pub a: Vec<u8>,
     pub b: Vec<u8>,
     pub c: Vec<u8>,
@@ -41,7 +42,7 @@ pub const OPENING: usize = 4 + 32 * 3;
 
 impl Buffers {
     /// Before the items are cast.
-    fn start() -> Buffers {
+    fn start(points: Vec<u8>) -> Buffers {
         Buffers {
             m: 0,
             n: 1,
@@ -49,6 +50,7 @@ impl Buffers {
             l: 2,
             t: 3,
             challenge: 2,
+            points,
             a: bytes(&[0, 1, 1]),
             b: bytes(&[0, 2, 1]),
             c: bytes(&[0, 0, 1]),
@@ -73,8 +75,15 @@ impl Buffers {
         }
     }
 
+    /// No points are lent.
     pub fn new() -> Buffers {
-        let (fresh, mut all) = (Buffers::start(), Buffers::start());
+        Buffers::lent(&[])
+    }
+
+    /// Every call that takes points is lent these.
+    pub fn lent(points: &[u32]) -> Buffers {
+        let fresh = Buffers::start(bytes(points));
+        let mut all = fresh.clone();
         assert_eq!(all.cast(), 0);
         let mut items = all.item.clone();
         all.x = bytes(&[20]);
@@ -109,26 +118,28 @@ impl Buffers {
     }
 
     pub fn encode(&mut self) -> u32 {
-        calls::encode(self.k, &self.w, &mut self.code, &mut self.root)
+        calls::encode(self.k, &self.points, &self.w, &mut self.code, &mut self.root)
     }
 
     pub fn cast(&mut self) -> u32 {
-        let Buffers { m, n, k, a, b, c, r, x, w, item, .. } = self;
-        calls::cast(*m, *n, *k, a, b, c, r, x, w, item)
+        let Buffers { m, n, k, points, a, b, c, r, x, w, item, .. } = self;
+        calls::cast(*m, *n, *k, points, a, b, c, r, x, w, item)
     }
 
     pub fn quotient(&mut self) -> u32 {
-        let Buffers { m, n, k, l, a, b, c, items, witnesses, quotient, .. } = self;
-        calls::quotient(*m, *n, *k, *l, a, b, c, items, witnesses, quotient)
+        let Buffers { m, n, k, l, points, a, b, c, items, witnesses, quotient, .. } = self;
+        calls::quotient(*m, *n, *k, *l, points, a, b, c, items, witnesses, quotient)
     }
 
     pub fn fold(&mut self) -> u32 {
-        let Buffers { m, n, k, l, challenge, a, b, c, items, witnesses, quotient, item, witness, .. } = self;
-        calls::fold(*m, *n, *k, *l, *challenge, a, b, c, items, witnesses, quotient, item, witness)
+        let Buffers { m, n, k, l, challenge, points, a, b, c, items, .. } = self;
+        let (witnesses, quotient, item, witness) =
+            (&self.witnesses, &mut self.quotient, &mut self.item, &mut self.witness);
+        calls::fold(*m, *n, *k, *l, *challenge, points, a, b, c, items, witnesses, quotient, item, witness)
     }
 
     pub fn open(&mut self) -> u32 {
-        calls::open(self.k, self.t, &self.w, &self.positions, &mut self.openings)
+        calls::open(self.k, self.t, &self.points, &self.w, &self.positions, &mut self.openings)
     }
 
     pub fn interleave(&mut self) -> u32 {
@@ -142,7 +153,8 @@ impl Buffers {
     }
 
     pub fn decide(&mut self) -> u32 {
-        calls::decide(self.m, self.n, self.k, &self.a, &self.b, &self.c, &self.item_in, &self.witness_in)
+        let Buffers { m, n, k, points, a, b, c, item_in, witness_in, .. } = self;
+        calls::decide(*m, *n, *k, points, a, b, c, item_in, witness_in)
     }
 }
 
@@ -161,16 +173,21 @@ pub const VERIFY: Call = Buffers::verify;
 pub const DECIDE: Call = Buffers::decide;
 pub const ALL: [Call; 8] = [ENCODE, CAST, QUOTIENT, FOLD, OPEN, INTERLEAVE, VERIFY, DECIDE];
 
-/// The answer of a call after a change, and that a refusal writes nothing.
+/// The answer of a call, and that a refusal writes nothing.
+pub fn answer_to(call: Call, before: &Buffers) -> u32 {
+    let mut buffers = before.clone();
+    let answer = call(&mut buffers);
+    if answer != 0 {
+        assert_eq!(buffers, *before);
+    }
+    answer
+}
+
+/// The answer of a call after a change.
 pub fn answer(call: Call, change: impl Fn(&mut Buffers)) -> u32 {
     let mut buffers = Buffers::new();
     change(&mut buffers);
-    let before = buffers.clone();
-    let answer = call(&mut buffers);
-    if answer != 0 {
-        assert_eq!(buffers, before);
-    }
-    answer
+    answer_to(call, &buffers)
 }
 
 /// The answers of the eight calls after a change.

@@ -33,7 +33,7 @@ fn elements_below_p() {
 /// r counts too, in an item with m = 1.
 #[test]
 fn r_below_p() {
-    let cast = |r| calls::cast(1, 1, 2, &[], &[], &[], &bytes(&[r]), &[0; 4], &[0; 8], &mut [0; 44]);
+    let cast = |r| calls::cast(1, 1, 2, &[], &[], &[], &[], &bytes(&[r]), &[0; 4], &[0; 8], &mut [0; 44]);
     assert_eq!((cast(P - 1), cast(P)), (0, 3));
 }
 
@@ -53,7 +53,7 @@ fn entries_inside_and_in_order() {
     }
     // Row first, then column.
     let cast = |entries: &[u32]| {
-        calls::cast(1, 1, 2, &bytes(entries), &[], &[], &[0; 4], &[0; 4], &[0; 8], &mut [0; 44])
+        calls::cast(1, 1, 2, &[], &bytes(entries), &[], &[], &[0; 4], &[0; 4], &[0; 8], &mut [0; 44])
     };
     assert_eq!(cast(&[0, 2, 1, 1, 0, 1]), 0);
     assert_eq!(cast(&[1, 0, 1, 0, 2, 1]), 4);

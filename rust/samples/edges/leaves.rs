@@ -15,7 +15,7 @@ const WITNESSES: [[u32; 2]; 3] = [[2, 3], [4, 5], [6, 7]];
 fn open_all(k: u32, w: &[u8]) -> Vec<Vec<u8>> {
     let length = 4 + 32 * (4 * k).ilog2() as usize;
     let (positions, mut openings) = ((0..4 * k).collect::<Vec<_>>(), vec![0; 4 * k as usize * length]);
-    assert_eq!(calls::open(k, 4 * k, w, &bytes(&positions), &mut openings), 0);
+    assert_eq!(calls::open(k, 4 * k, &[], w, &bytes(&positions), &mut openings), 0);
     openings.chunks(length).map(<[u8]>::to_vec).collect()
 }
 
@@ -25,7 +25,7 @@ fn trees_over_positions_and_values() {
     for k in [2, 4, 8, 16, 32, 64] {
         let w = bytes(&(1..=k).collect::<Vec<_>>());
         let (mut code, mut root) = (vec![0; 16 * k as usize], [0; 32]);
-        assert_eq!(calls::encode(k, &w, &mut code, &mut root), 0);
+        assert_eq!(calls::encode(k, &[], &w, &mut code, &mut root), 0);
         let values: Vec<&[u8]> = code.chunks(4).collect();
         let entries: Vec<Vec<u8>> = values
             .iter()
@@ -43,7 +43,10 @@ fn trees_over_positions_and_values() {
 
 fn values_alone(w: &[u32]) -> Vec<[u8; 4]> {
     let w: Vec<Element> = w.iter().map(|number| Element::new(*number).unwrap()).collect();
-    code::codeword(&w).iter().map(|value| value.number().to_le_bytes()).collect()
+    code::codeword(&code::built_in_points(w.len()), &w)
+        .iter()
+        .map(|value| value.number().to_le_bytes())
+        .collect()
 }
 
 /// Gives the items and the new item roots of values alone.
@@ -84,7 +87,7 @@ fn openings_of_a_constant_codeword() {
         let w = [vec![7], vec![0; k as usize - 1]].concat();
         let values = values_alone(&w);
         let mut item = [0; ITEM];
-        assert_eq!(calls::cast(0, 1, k, &[], &[], &[], &[], &[0; 4], &bytes(&w), &mut item), 0);
+        assert_eq!(calls::cast(0, 1, k, &[], &[], &[], &[], &[], &[0; 4], &bytes(&w), &mut item), 0);
         let openings = open_all(k, &bytes(&w));
         for own in filed {
             assert_eq!(tree::path(own, &values), tree::path(0, &values));

@@ -2,25 +2,25 @@
 
 use super::buffers::*;
 use lomvuze_reference::field::P;
-use lomvuze_samples::put;
+use lomvuze_samples::{bytes, put};
 
 /// The checks of each call.
 const CONCERNS: [&[u32]; 8] = [
-    &[2, 3],
-    &[2, 3, 4, 11],
-    &[2, 3, 4, 10, 11],
-    &[2, 3, 4, 5, 10, 11],
-    &[2, 3, 6],
+    &[2, 3, 12],
+    &[2, 3, 12, 4, 11],
+    &[2, 3, 12, 4, 10, 11],
+    &[2, 3, 12, 4, 5, 10, 11],
+    &[2, 3, 12, 6],
     &[2],
     &[2, 3, 5, 6, 7, 8, 9],
-    &[2, 3, 4, 10, 11],
+    &[2, 3, 12, 4, 10, 11],
 ];
 
 /// Changes that make the checks fail one by one, from the last to the first: each makes its check fail, in the calls
 /// that run it, and none before it. The answer of a call is the number of the last change that concerns it.
 #[test]
 fn the_first_failing_check_answers() {
-    let steps: [(u32, Change); 10] = [
+    let steps: [(u32, Change); 11] = [
         (11, |all| put(&mut all.c, 8, 2)),
         (10, |all| {
             put(&mut all.witnesses, 0, 9);
@@ -36,6 +36,7 @@ fn the_first_failing_check_answers() {
                 put(list, 0, 1);
             }
         }),
+        (12, |all| all.points = bytes(&[1, 2, 3, 4, 5, 6, 7, 1])),
         (3, |all| {
             for list in
                 [&mut all.w, &mut all.witnesses, &mut all.items, &mut all.item_in, &mut all.witness_in]

@@ -114,9 +114,9 @@ fn statements(random: &mut Random, count: u32) -> Honest {
         let w = [&before[..], &[before[0] - units, before[1] + units, units], &free].concat();
         let r = bytes(&[number(0, P), number(0, P)]);
         let mut item = vec![0; (4 + 4 * M + 4 * N + 32) as usize];
-        assert_eq!((REFERENCE.cast)(M, N, K, &a, &b, &c, &r, &x, &bytes(&w), &mut item), 0);
+        assert_eq!((REFERENCE.cast)(M, N, K, &[], &a, &b, &c, &r, &x, &bytes(&w), &mut item), 0);
         items.extend(item);
         witnesses.extend(bytes(&w));
     }
-    Honest { m: M, n: N, k: K, l: count, a, b, c, items, witnesses }
+    Honest { m: M, n: N, k: K, l: count, points: vec![], a, b, c, items, witnesses }
 }

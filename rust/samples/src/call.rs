@@ -1,109 +1,9 @@
 //! Random calls of the eight: numbers, buffers that are read and buffers that are written.
 
 use crate::instance::instance;
-use crate::{bytes, Chain, Honest, Library, Random, REFERENCE};
+use crate::name::Part::{self, *};
+use crate::{bytes, Chain, Honest, Library, Name, Random, REFERENCE};
 use lomvuze_reference::field::P;
-
-#[derive(Clone, Copy, PartialEq, Eq, Hash, Debug)]
-pub enum Name {
-    Encode,
-    Cast,
-    Quotient,
-    Fold,
-    Open,
-    Interleave,
-    Verify,
-    Decide,
-}
-
-pub const NAMES: [Name; 8] = [
-    Name::Encode,
-    Name::Cast,
-    Name::Quotient,
-    Name::Fold,
-    Name::Open,
-    Name::Interleave,
-    Name::Verify,
-    Name::Decide,
-];
-
-/// What a buffer holds.
-#[derive(Clone, Copy, PartialEq, Eq, Debug)]
-pub enum Part {
-    Entries,
-    R,
-    X,
-    Witness,
-    Witnesses,
-    Codeword,
-    Root,
-    Item,
-    Items,
-    Quotient,
-    Positions,
-    /// Of one witness.
-    Openings,
-    /// Of all items and the new one, witness by witness.
-    Opened,
-    /// Of all items and the new one, position by position.
-    AllOpenings,
-}
-use Part::*;
-
-impl Name {
-    /// The checks that the call runs, in order.
-    pub fn checks(self) -> &'static [u32] {
-        match self {
-            Name::Encode => &[2, 3],
-            Name::Cast => &[2, 3, 4, 11],
-            Name::Quotient => &[2, 3, 4, 10, 11],
-            Name::Fold => &[2, 3, 4, 5, 10, 11],
-            Name::Open => &[2, 3, 6],
-            Name::Interleave => &[2],
-            Name::Verify => &[2, 3, 5, 6, 7, 8, 9],
-            Name::Decide => &[2, 3, 4, 10, 11],
-        }
-    }
-
-    /// The numbers that the call takes; a is the challenge.
-    pub fn numbers(self) -> &'static str {
-        match self {
-            Name::Encode => "k",
-            Name::Cast | Name::Decide => "mnk",
-            Name::Quotient => "mnkl",
-            Name::Fold => "mnkla",
-            Name::Open => "kt",
-            Name::Interleave => "klt",
-            Name::Verify => "mnklta",
-        }
-    }
-
-    /// The buffers that the call reads.
-    pub fn inputs(self) -> &'static [Part] {
-        match self {
-            Name::Encode => &[Witness],
-            Name::Cast => &[Entries, Entries, Entries, R, X, Witness],
-            Name::Quotient | Name::Fold => &[Entries, Entries, Entries, Items, Witnesses],
-            Name::Open => &[Witness, Positions],
-            Name::Interleave => &[Opened],
-            Name::Verify => &[Items, Positions, Quotient, Item, AllOpenings],
-            Name::Decide => &[Entries, Entries, Entries, Item, Witness],
-        }
-    }
-
-    /// The buffers that the call writes.
-    pub fn outputs(self) -> &'static [Part] {
-        match self {
-            Name::Encode => &[Codeword, Root],
-            Name::Cast => &[Item],
-            Name::Quotient => &[Quotient],
-            Name::Fold => &[Quotient, Item, Witness],
-            Name::Open => &[Openings],
-            Name::Interleave => &[AllOpenings],
-            Name::Verify | Name::Decide => &[],
-        }
-    }
-}
 
 /// A call with its arguments: the numbers first, then the buffers it reads, then those it writes.
 #[derive(Clone, PartialEq, Debug)]
@@ -122,24 +22,33 @@ impl Call {
         match self.name {
             Name::Encode => {
                 let [code, root] = &mut o[..] else { unreachable!() };
-                (by.encode)(n[0], &i[0], code, root)
+                (by.encode)(n[0], &i[0], &i[1], code, root)
             }
-            Name::Cast => (by.cast)(n[0], n[1], n[2], &i[0], &i[1], &i[2], &i[3], &i[4], &i[5], &mut o[0]),
+            Name::Cast => {
+                let [points, a, b, c, r, x, w] = &i[..] else { unreachable!() };
+                (by.cast)(n[0], n[1], n[2], points, a, b, c, r, x, w, &mut o[0])
+            }
             Name::Quotient => {
-                (by.quotient)(n[0], n[1], n[2], n[3], &i[0], &i[1], &i[2], &i[3], &i[4], &mut o[0])
+                let [points, a, b, c, items, wits] = &i[..] else { unreachable!() };
+                (by.quotient)(n[0], n[1], n[2], n[3], points, a, b, c, items, wits, &mut o[0])
             }
             Name::Fold => {
-                let [quotient, item, witness] = &mut o[..] else { unreachable!() };
+                let [points, a, b, c, items, wits] = &i[..] else { unreachable!() };
+                let [quotient, item, wit] = &mut o[..] else { unreachable!() };
+                let challenge = n[4];
                 (by.fold)(
-                    n[0], n[1], n[2], n[3], n[4], &i[0], &i[1], &i[2], &i[3], &i[4], quotient, item, witness,
+                    n[0], n[1], n[2], n[3], challenge, points, a, b, c, items, wits, quotient, item, wit,
                 )
             }
-            Name::Open => (by.open)(n[0], n[1], &i[0], &i[1], &mut o[0]),
+            Name::Open => (by.open)(n[0], n[1], &i[0], &i[1], &i[2], &mut o[0]),
             Name::Interleave => (by.interleave)(n[0], n[1], n[2], &i[0], &mut o[0]),
             Name::Verify => {
                 (by.verify)(n[0], n[1], n[2], n[3], n[4], n[5], &i[0], &i[1], &i[2], &i[3], &i[4])
             }
-            Name::Decide => (by.decide)(n[0], n[1], n[2], &i[0], &i[1], &i[2], &i[3], &i[4]),
+            Name::Decide => {
+                let [points, a, b, c, item, wit] = &i[..] else { unreachable!() };
+                (by.decide)(n[0], n[1], n[2], points, a, b, c, item, wit)
+            }
         }
     }
 
@@ -161,13 +70,14 @@ impl Call {
         let positions: Vec<u32> = (0..t).map(|_| random.below(4 * k as usize) as u32).collect();
         let first = |part: &[u8], length: usize| part[..length].to_vec();
         let w = first(&list.witnesses, list.witness_length());
-        let circuit = [list.a.clone(), list.b.clone(), list.c.clone()];
+        let points = list.points.clone();
+        let circuit = [points.clone(), list.a.clone(), list.b.clone(), list.c.clone()];
         let (numbers, inputs) = match name {
-            Name::Encode => (vec![k], vec![w]),
-            Name::Cast => (vec![m, n, k], instance(random, &list)),
+            Name::Encode => (vec![k], vec![points, w]),
+            Name::Cast => (vec![m, n, k], [vec![points], instance(random, &list)].concat()),
             Name::Quotient => (vec![m, n, k, l], [&circuit[..], &[list.items, list.witnesses]].concat()),
             Name::Fold => (vec![m, n, k, l, a], [&circuit[..], &[list.items, list.witnesses]].concat()),
-            Name::Open => (vec![k, t as u32], vec![w, bytes(&positions)]),
+            Name::Open => (vec![k, t as u32], vec![points, w, bytes(&positions)]),
             // Any bytes of the right length are put in order.
             Name::Interleave => {
                 let opened = random.bytes(t * (l as usize + 1) * list.opening_length());
@@ -207,11 +117,18 @@ impl Call {
         4 + 32 * (4 * self.number('k')).max(1).ilog2() as usize
     }
 
-    /// The length that the numbers give a buffer, permitted ones or not. A list of entries has any.
+    /// Where the first input that holds a part stands.
+    pub fn input_of(&self, part: Part) -> Option<usize> {
+        self.name.inputs().iter().position(|of| *of == part)
+    }
+
+    /// The length that the numbers give a buffer, permitted ones or not; points that are lent. A list of entries
+    /// has any.
     pub fn length(&self, part: Part) -> Option<usize> {
         let [m, n, k, l, t] = ['m', 'n', 'k', 'l', 't'].map(|letter| self.number(letter));
         Some(match part {
             Entries => return None,
+            Points => 16 * k,
             R => 4 * m,
             X => 4 * n,
             Witness => 4 * k,
@@ -238,7 +155,7 @@ impl Call {
                 .flat_map(|at| (0..item_numbers).map(move |j| at + 4 * j))
                 .collect(),
             AllOpenings => (0..length).step_by(self.opening_length()).collect(),
-            Positions | Opened => vec![],
+            Points | Positions | Opened => vec![],
             _ => (0..length).step_by(4).collect(),
         }
     }

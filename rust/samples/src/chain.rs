@@ -26,6 +26,7 @@ impl Chain {
             list.k,
             list.l,
             challenge,
+            &list.points,
             &list.a,
             &list.b,
             &list.c,
@@ -42,7 +43,7 @@ impl Chain {
         let mut opened = vec![];
         for w in list.witnesses.chunks(list.witness_length()).chain([&new_witness[..]]) {
             let mut openings = vec![0; t as usize * list.opening_length()];
-            assert_eq!((by.open)(list.k, t, w, &positions, &mut openings), 0);
+            assert_eq!((by.open)(list.k, t, &list.points, w, &positions, &mut openings), 0);
             opened.extend(openings);
         }
         let mut openings = vec![0; opened.len()];
@@ -67,6 +68,7 @@ impl Chain {
     }
 
     pub fn decide(&self, by: &Library, list: &Honest) -> u32 {
-        (by.decide)(list.m, list.n, list.k, &list.a, &list.b, &list.c, &self.new_item, &self.new_witness)
+        let Honest { m, n, k, points, a, b, c, .. } = list;
+        (by.decide)(*m, *n, *k, points, a, b, c, &self.new_item, &self.new_witness)
     }
 }

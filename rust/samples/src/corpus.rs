@@ -2,8 +2,8 @@
 //! describes.
 
 use crate::sheet::{accepted, of_length, Buffers, Shape, GREATEST};
-use crate::{bytes, put, Call, Honest, Name, Random, NAMES, REFERENCE};
-use lomvuze_reference::field::Element;
+use crate::{bytes, number_at, points, put, Call, Honest, Name, Part, Random, NAMES, REFERENCE};
+use lomvuze_reference::field::{Element, P};
 use lomvuze_reference::{code, sheet};
 use std::path::{Path, PathBuf};
 
@@ -40,8 +40,9 @@ fn stored_calls(name: Name) -> Vec<(PathBuf, Vec<u8>)> {
         add(&check.to_string(), input(&call));
     }
 
+    let takes_points = call.input_of(Part::Points).is_some();
     let mut longer = call.clone();
-    longer.inputs[0].push(0);
+    longer.inputs[takes_points as usize].push(0);
     add("2-longer", input(&longer));
     let mut shorter = call.clone();
     shorter.inputs.iter_mut().chain(&mut shorter.outputs).last().unwrap().pop();
@@ -51,6 +52,40 @@ fn stored_calls(name: Name) -> Vec<(PathBuf, Vec<u8>)> {
         let mut content = input(&call);
         put(&mut content, 4 * i, call.numbers[i] + (1 << 30));
         add(&format!("2-{size}"), content);
+    }
+    if takes_points {
+        files.extend(stored_points(&mut random, name));
+    }
+    files
+}
+
+/// Calls that are lent points: random ones at the greatest sizes and at small ones, and the built-in ones; with points
+/// that repeat another or are p or more, and of other lengths.
+fn stored_points(random: &mut Random, name: Name) -> Vec<(PathBuf, Vec<u8>)> {
+    let mut files = vec![];
+    let mut add = |what: &str, call: &Call| {
+        let answer = call.clone().run(&REFERENCE);
+        assert_eq!(what.split('-').next(), Some(&answer.to_string()[..]));
+        files.push((folder(name).join(what), input(call)));
+    };
+    let list = Honest::with_entries(random, 6, 64, 64, 8, [16, 16, 80]).lent(points::different(random, 64));
+    add("0-greatest-lent", &Call::over(random, name, list, 2));
+    let list = Honest::with_entries(random, 1, 2, 4, 2, [3, 3, 3]);
+    let lent = list.clone().lent(points::different(random, 4));
+    let call = Call::over(random, name, lent, 2);
+    add("0-lent", &call);
+    add("0-built-in", &Call::over(random, name, list.lent(points::built_in(4)), 2));
+
+    let first = number_at(&call.inputs[0], 0);
+    for (what, at, number) in [("12-last", 60, first), ("12-next", 4, first), ("12-p", 60, P)] {
+        let mut call = call.clone();
+        put(&mut call.inputs[0], at, number);
+        add(what, &call);
+    }
+    for (what, length) in [("2-points-longer", 65), ("2-points-shorter", 63), ("2-points-of-2", 32)] {
+        let mut call = call.clone();
+        call.inputs[0].resize(length, 0);
+        add(what, &call);
     }
     files
 }
@@ -94,7 +129,10 @@ pub fn honest(count: usize) -> Vec<(PathBuf, Vec<u8>)> {
     let mut files = vec![];
     for name in NAMES {
         let greatest = Honest::greatest(&mut random);
-        files.push((folder(name).join("greatest"), input(&Call::over(&mut random, name, greatest, 256))));
+        let lent = greatest.clone().lent(points::different(&mut random, 64));
+        for (what, list) in [("greatest", greatest), ("greatest-lent", lent)] {
+            files.push((folder(name).join(what), input(&Call::over(&mut random, name, list, 256))));
+        }
         for i in 0..count {
             let list = Honest::of_any_size(&mut random);
             let t = 1 + random.below(4 * list.k as usize);
@@ -129,7 +167,7 @@ fn matching(random: &mut Random, shape: &Shape) -> Vec<u8> {
     let mut sheet = accepted(random, shape);
     for pair in &mut sheet.pairs {
         let w: Vec<Element> = pair.witness.iter().map(|number| Element::new(*number).unwrap()).collect();
-        pair.root = code::root(&w);
+        pair.root = code::root(&code::built_in_points(w.len()), &w);
     }
     sheet::write(&sheet)
 }
@@ -139,14 +177,29 @@ fn sheet_input(more: [isize; 5], text: &[u8]) -> Vec<u8> {
     [&bytes(&more.map(|more| more as u32)), text].concat()
 }
 
-/// A call with permitted sizes as an input: its numbers, the lengths of its buffers beside those that the sizes
-/// give, and the contents of those that it reads.
+/// A call with permitted sizes as an input: its numbers, which points are lent, the lengths of its buffers beside
+/// those that the sizes give, and the contents of those that it reads.
 fn input(call: &Call) -> Vec<u8> {
+    let which = which_points(call);
     let parts = call.name.inputs().iter().chain(call.name.outputs());
     let buffers = call.inputs.iter().chain(&call.outputs);
-    let more: Vec<u32> = parts
-        .zip(buffers)
-        .map(|(part, buffer)| (buffer.len() as u32).wrapping_sub(call.length(*part).unwrap_or(0) as u32))
-        .collect();
-    [bytes(&call.numbers), bytes(&more), call.inputs.concat()].concat()
+    let given = |part: Part| match part {
+        Part::Points if which == Some(0) => 0,
+        _ => call.length(part).unwrap_or(0) as u32,
+    };
+    let more: Vec<u32> =
+        parts.zip(buffers).map(|(part, buffer)| (buffer.len() as u32).wrapping_sub(given(*part))).collect();
+    // The built-in points have no contents.
+    let contents = call.inputs[(which == Some(1)) as usize..].concat();
+    [bytes(&call.numbers), which.into_iter().collect(), bytes(&more), contents].concat()
+}
+
+/// For a call that takes points, 0 for none, 1 for the built-in ones and 2 for others.
+fn which_points(call: &Call) -> Option<u8> {
+    let lent = &call.inputs[call.input_of(Part::Points)?];
+    Some(match lent.is_empty() {
+        true => 0,
+        false if *lent == points::built_in(call.number('k') as u32) => 1,
+        false => 2,
+    })
 }

@@ -1,6 +1,8 @@
 //! Damage to calls: random changes, and changes that make one chosen check fail.
 
 mod another_witness;
+mod points;
+mod sizes;
 
 use crate::{number_at, put, Call, Name, Part, Random};
 use lomvuze_reference::field::P;
@@ -10,6 +12,10 @@ impl Call {
     pub fn damage(&mut self, random: &mut Random) {
         if self.name == Name::Verify && random.below(6) == 0 {
             self.show_another_witness(random);
+            return;
+        }
+        if self.input_of(Part::Points).is_some() && random.below(8) == 0 {
+            self.lend_others(random);
             return;
         }
         let number = [0, 1, P - 1, P, u32::MAX, random.below(300) as u32, random.number()][random.below(7)];
@@ -61,6 +67,7 @@ impl Call {
                 let number = [P, P + 1, u32::MAX, P + random.below((u32::MAX - P) as usize) as u32];
                 put(&mut self.inputs[i], at, number[random.below(4)]);
             }
+            12 => self.fail_points(random),
             4 => self.fail_order(random),
             5 => {
                 let a = [0, self.number('l') as u32 - 1, P, P + 1, u32::MAX][random.below(5)];
@@ -70,8 +77,15 @@ impl Call {
             6 => {
                 let position = [4 * self.number('k') as u32, u32::MAX][random.below(2)];
                 let at = 4 * random.below(self.number('t'));
-                put(&mut self.inputs[1], at, position);
+                put(self.first(Part::Positions), at, position);
             }
+            _ => self.fail_claims(random, check),
+        }
+    }
+
+    /// The same for the checks of new item, openings, roots and claims.
+    fn fail_claims(&mut self, random: &mut Random, check: u32) {
+        match check {
             // At a permitted challenge every number of every item and every coefficient counts.
             7 => self.change_element(random, |part| part != Part::AllOpenings),
             8 => match random.below(4) {
@@ -91,73 +105,28 @@ impl Call {
             },
             11 if self.name == Name::Cast => {
                 // The weights of all rows have the sum 1, and x_0 is not 0.
-                for entry in self.inputs[2].chunks_mut(12).filter(|entry| number_at(entry, 4) == 0) {
+                let c = self.input_of(Part::Entries).unwrap() + 2;
+                for entry in self.inputs[c].chunks_mut(12).filter(|entry| number_at(entry, 4) == 0) {
                     put(entry, 8, (number_at(entry, 8) + 1) % P);
                 }
             }
             11 => {
-                let at = random.below(self.inputs[3].len() / self.item_length()) * self.item_length();
-                let e = number_at(&self.inputs[3], at);
-                put(&mut self.inputs[3], at, (e + 1) % P);
+                let length = self.item_length();
+                let part = if self.name == Name::Decide { Part::Item } else { Part::Items };
+                let items = self.first(part);
+                let at = random.below(items.len() / length) * length;
+                let e = number_at(items, at);
+                put(items, at, (e + 1) % P);
             }
             _ => unreachable!(),
-        }
-    }
-
-    /// A size that is not permitted, with buffers that fit it; a size that does not fit the buffers; or a
-    /// buffer of another length.
-    fn fail_sizes(&mut self, random: &mut Random) {
-        let sizes = self.name.numbers().trim_end_matches('a').len();
-        let i = random.below(sizes);
-        match random.below(4) {
-            0 => {
-                let most = 4 * self.number('k') as u32 + 1;
-                let not_permitted: &[u32] = match self.name.numbers().as_bytes()[i] {
-                    b'm' => &[7, 8],
-                    b'n' => &[0, 65],
-                    b'k' => &[0, 1, 3, 5, 63, 65, 128],
-                    b'l' => &[0, 9],
-                    _ => &[0, most],
-                };
-                self.numbers[i] = not_permitted[random.below(not_permitted.len())];
-                self.fit();
-            }
-            1 => {
-                let other = [self.numbers[i].wrapping_sub(1), self.numbers[i] + 1, u32::MAX, 1 << 31];
-                self.numbers[i] = other[random.below(4)];
-            }
-            _ => {
-                let parts = [self.name.inputs(), self.name.outputs()].concat();
-                let i = random.below(parts.len());
-                let buffer = self.inputs.iter_mut().chain(&mut self.outputs).nth(i).unwrap();
-                let length = buffer.len();
-                if parts[i] == Part::Entries && random.below(2) == 0 {
-                    buffer.resize(12 * 1025, 0);
-                } else if length > 0 && random.below(2) == 0 {
-                    buffer.truncate(length - 1);
-                } else {
-                    buffer.resize(length + [1, 3, 11][random.below(3)], 0);
-                }
-            }
-        }
-    }
-
-    /// Gives all buffers the lengths that the numbers give.
-    fn fit(&mut self) {
-        for (i, part) in self.name.inputs().iter().enumerate() {
-            let length = self.length(*part).unwrap_or(self.inputs[i].len());
-            self.inputs[i].resize(length, 0);
-        }
-        for (i, part) in self.name.outputs().iter().enumerate() {
-            let length = self.length(*part).unwrap();
-            self.outputs[i].resize(length, 0);
         }
     }
 
     /// An entry outside rows or columns, or one that does not lie behind the one before.
     fn fail_order(&mut self, random: &mut Random) {
         let (rows, columns) = (1 << self.number('m'), (self.number('n') + self.number('k')) as u32);
-        let list = &mut self.inputs[random.below(3)];
+        let a = self.input_of(Part::Entries).unwrap();
+        let list = &mut self.inputs[a + random.below(3)];
         if list.is_empty() {
             list.resize(12, 0);
         }
@@ -206,8 +175,15 @@ impl Call {
     /// Puts another position below 4k in the place of one.
     fn change_position(&mut self, random: &mut Random) {
         let (at, count) = (4 * random.below(self.number('t')), 4 * self.number('k'));
-        let position = number_at(&self.inputs[1], at) as usize + 1 + random.below(count - 1);
-        put(&mut self.inputs[1], at, (position % count) as u32);
+        let positions = self.first(Part::Positions);
+        let position = number_at(positions, at) as usize + 1 + random.below(count - 1);
+        put(positions, at, (position % count) as u32);
+    }
+
+    /// The first input that holds a part.
+    fn first(&mut self, part: Part) -> &mut Vec<u8> {
+        let i = self.input_of(part).unwrap();
+        &mut self.inputs[i]
     }
 
     fn input(&mut self, random: &mut Random) -> &mut Vec<u8> {

@@ -1,18 +1,19 @@
 //! Honest lists: items that hold and match with their witnesses, for one circuit.
 
-use crate::{bytes, Random};
+use crate::{bytes, number_at, points, Random};
 use lomvuze_reference::claims::{self, Circuit, Entry};
 use lomvuze_reference::code;
 use lomvuze_reference::field::Element;
 use std::ops::Range;
 
-/// An honest list, and its circuit and witnesses, as the calls take them.
+/// An honest list, and its points, circuit and witnesses, as the calls take them.
 #[derive(Clone, Debug)]
 pub struct Honest {
     pub m: u32,
     pub n: u32,
     pub k: u32,
     pub l: u32,
+    pub points: Vec<u8>,
     pub a: Vec<u8>,
     pub b: Vec<u8>,
     pub c: Vec<u8>,
@@ -22,7 +23,7 @@ pub struct Honest {
 
 impl Honest {
     /// A random circuit of up to a hundred entries in each list, and l random r, x and w, each with its value
-    /// as e.
+    /// as e. No points are lent.
     pub fn random(random: &mut Random, m: u32, n: u32, k: u32, l: u32) -> Honest {
         let most = 100.min((n + k) << m) as usize;
         let entries = [0; 3].map(|_| random.below(most + 1));
@@ -38,29 +39,44 @@ impl Honest {
     pub fn with_entries(random: &mut Random, m: u32, n: u32, k: u32, l: u32, entries: [usize; 3]) -> Honest {
         let [a, b, c] = entries.map(|count| random_list(random, m, 0..n + k, count));
         let circuit = Circuit { a, b, c };
+        let points = code::built_in_points(k as usize);
         let (mut items, mut witnesses) = (vec![], vec![]);
         for _ in 0..l {
             let (r, x, w) =
                 (random.elements(m as usize), random.elements(n as usize), random.elements(k as usize));
             let e = claims::value(&circuit, &r, &x, &w);
             items.extend([element_bytes(&[e]), element_bytes(&r), element_bytes(&x)].concat());
-            items.extend(code::root(&w));
+            items.extend(code::root(&points, &w));
             witnesses.extend(element_bytes(&w));
         }
         let [a, b, c] = [&circuit.a, &circuit.b, &circuit.c].map(|list| list_bytes(list));
-        Honest { m, n, k, l, a, b, c, items, witnesses }
+        Honest { m, n, k, l, points: vec![], a, b, c, items, witnesses }
     }
 
-    /// Sizes are random too.
+    /// The same list where these points are lent: each item has the root of its witness's codeword at them.
+    pub fn lent(mut self, points: Vec<u8>) -> Honest {
+        let (used, length) = (points::used(self.k, &points), self.item_length());
+        let witnesses = self.witnesses.chunks(self.witness_length());
+        for (item, witness) in self.items.chunks_mut(length).zip(witnesses) {
+            let w: Vec<Element> =
+                witness.chunks(4).map(|number| Element::new(number_at(number, 0)).unwrap()).collect();
+            item[length - 32..].copy_from_slice(&code::root(&used, &w));
+        }
+        self.points = points;
+        self
+    }
+
+    /// Sizes are random too, and whether points are lent.
     pub fn of_any_size(random: &mut Random) -> Honest {
         let m = random.below(7) as u32;
         let n = 1 + random.below(64) as u32;
         let k = 2 << random.below(6);
         let l = 1 + random.below(8) as u32;
-        Honest::random(random, m, n, k, l)
+        let points = points::any(random, k);
+        Honest::random(random, m, n, k, l).lent(points)
     }
 
-    /// Random sizes, of which most are small.
+    /// Random sizes, of which most are small, and points or none.
     pub fn of_small_size(random: &mut Random) -> Honest {
         if random.below(50) == 0 {
             return Honest::of_any_size(random);
@@ -69,7 +85,8 @@ impl Honest {
         let n = 1 + random.below(4) as u32;
         let k = 2 << random.below(3);
         let l = 1 + random.below(4) as u32;
-        Honest::random(random, m, n, k, l)
+        let points = points::any(random, k);
+        Honest::random(random, m, n, k, l).lent(points)
     }
 
     pub fn item_length(&self) -> usize {

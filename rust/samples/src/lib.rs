@@ -1,5 +1,5 @@
-//! Seeded random inputs for tests: numbers, honest lists of items with their circuit and witnesses, as the
-//! bytes that the calls take, whole calls, honest and damaged, by which two implementations are compared, and
+//! Seeded random inputs for tests: numbers, points, honest lists of items with their circuit and witnesses, as
+//! the bytes that the calls take, whole calls, honest and damaged, by which two implementations are compared, and
 //! sheets.
 
 pub mod batch;
@@ -11,14 +11,17 @@ pub mod damage;
 pub mod honest;
 mod instance;
 pub mod library;
+pub mod name;
+pub mod points;
 pub mod random;
 pub mod sheet;
 
-pub use call::{Call, Name, Part, NAMES};
+pub use call::Call;
 pub use chain::Chain;
 pub use comparison::Comparison;
 pub use honest::Honest;
 pub use library::{Library, REFERENCE};
+pub use name::{Name, Part, NAMES};
 pub use random::Random;
 
 /// Numbers in four bytes each, lowest first.

@@ -8,14 +8,14 @@ type In<'a> = &'a [u8];
 type Out<'a> = &'a mut [u8];
 
 pub struct Library {
-    pub encode: fn(u32, In, Out, Out) -> u32,
-    pub cast: fn(u32, u32, u32, In, In, In, In, In, In, Out) -> u32,
-    pub quotient: fn(u32, u32, u32, u32, In, In, In, In, In, Out) -> u32,
-    pub fold: fn(u32, u32, u32, u32, u32, In, In, In, In, In, Out, Out, Out) -> u32,
-    pub open: fn(u32, u32, In, In, Out) -> u32,
+    pub encode: fn(u32, In, In, Out, Out) -> u32,
+    pub cast: fn(u32, u32, u32, In, In, In, In, In, In, In, Out) -> u32,
+    pub quotient: fn(u32, u32, u32, u32, In, In, In, In, In, In, Out) -> u32,
+    pub fold: fn(u32, u32, u32, u32, u32, In, In, In, In, In, In, Out, Out, Out) -> u32,
+    pub open: fn(u32, u32, In, In, In, Out) -> u32,
     pub interleave: fn(u32, u32, u32, In, Out) -> u32,
     pub verify: fn(u32, u32, u32, u32, u32, u32, In, In, In, In, In) -> u32,
-    pub decide: fn(u32, u32, u32, In, In, In, In, In) -> u32,
+    pub decide: fn(u32, u32, u32, In, In, In, In, In, In) -> u32,
 }
 
 /// The library of a module that has the eight calls.

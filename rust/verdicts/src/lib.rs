@@ -2,7 +2,7 @@
 //! Rust code declares them; the crate `lomvuze`, the tests and the benchmark use these.
 //!
 //! Each tests its own input and answers 0, or the number of the first check that fails; a refusal writes
-//! nothing. A slice crosses the boundary as pointer and length. Rust's borrowing gives what the calls ask of
+//! nothing. `points` is empty for the built-in evaluation points, or holds 4k numbers. A slice crosses the boundary as pointer and length. Rust's borrowing gives what the calls ask of
 //! the caller: no null pointer, and no output buffer that overlaps another buffer.
 
 #![allow(clippy::too_many_arguments)]
@@ -56,22 +56,22 @@ macro_rules! calls {
 }
 
 calls! {
-    /// Writes the codeword of a witness and its root. Checks 2 and 3.
-    fn encode = lomvuze_encode(k; w; code_out, root_out);
+    /// Writes the codeword of a witness and its root. Checks 2, 3 and 12.
+    fn encode = lomvuze_encode(k; points, w; code_out, root_out);
 
-    /// Writes the item of an R1CS instance: r as lent, e = 0 and the root of the witness. Checks 2, 3, 4 and
+    /// Writes the item of an R1CS instance: r as lent, e = 0 and the root of the witness. Checks 2, 3, 12, 4 and
     /// 11.
-    fn cast = lomvuze_cast(m, n, k; a, b, c, r, x, w; item_out);
+    fn cast = lomvuze_cast(m, n, k; points, a, b, c, r, x, w; item_out);
 
-    /// Writes the quotient of l items. Checks 2, 3, 4, 10 and 11.
-    fn quotient = lomvuze_quotient(m, n, k, l; a, b, c, items, wits; quotient_out);
+    /// Writes the quotient of l items. Checks 2, 3, 12, 4, 10 and 11.
+    fn quotient = lomvuze_quotient(m, n, k, l; points, a, b, c, items, wits; quotient_out);
 
-    /// Writes the quotient of l items, and the new item and witness for a challenge. Checks 2, 3, 4, 5, 10
+    /// Writes the quotient of l items, and the new item and witness for a challenge. Checks 2, 3, 12, 4, 5, 10
     /// and 11.
-    fn fold = lomvuze_fold(m, n, k, l, challenge; a, b, c, items, wits; quotient_out, item_out, wit_out);
+    fn fold = lomvuze_fold(m, n, k, l, challenge; points, a, b, c, items, wits; quotient_out, item_out, wit_out);
 
-    /// Writes the openings of t positions of a witness's codeword. Checks 2, 3 and 6.
-    fn open = lomvuze_open(k, t; w, positions; openings_out);
+    /// Writes the openings of t positions of a witness's codeword. Checks 2, 3, 12 and 6.
+    fn open = lomvuze_open(k, t; points, w, positions; openings_out);
 
     /// Writes the openings of l items and the new one, which are lent one witness after the other, position by
     /// position and, within one, item by item: as verifying reads them. Check 2.
@@ -80,8 +80,8 @@ calls! {
     /// Verifies a fold of l items at t positions. Checks 2, 3 and 5 to 9.
     fn verify = lomvuze_verify(m, n, k, l, t, challenge; items, positions, quotient, new_item, openings;);
 
-    /// Decides an item with its witness. Checks 2, 3, 4, 10 and 11.
-    fn decide = lomvuze_decide(m, n, k; a, b, c, item, wit;);
+    /// Decides an item with its witness. Checks 2, 3, 12, 4, 10 and 11.
+    fn decide = lomvuze_decide(m, n, k; points, a, b, c, item, wit;);
 
     /// Reads a sheet into buffers of the greatest lengths; `sizes_out` gets m, n, k, the count of entries of A,
     /// B and C, and the count of pairs. Checks 1 to 4.

@@ -12,7 +12,7 @@ const OPENING: usize = 4 + 32 * 3;
 
 fn root(w: [u32; 2]) -> Vec<u8> {
     let (mut code, mut root) = (vec![0; 32], vec![0; 32]);
-    assert_eq!(calls::encode(2, &bytes(&w), &mut code, &mut root), 0);
+    assert_eq!(calls::encode(2, &[], &bytes(&w), &mut code, &mut root), 0);
     root
 }
 
@@ -22,13 +22,13 @@ fn item(e: u32, x: u32, w: [u32; 2]) -> Vec<u8> {
 
 fn cast(x: u32, w: [u32; 2]) -> (u32, Vec<u8>) {
     let mut out = vec![0; ITEM];
-    let answer =
-        calls::cast(0, 1, 2, &bytes(&A), &bytes(&B), &bytes(&C), &[], &bytes(&[x]), &bytes(&w), &mut out);
+    let [a, b, c] = [A, B, C].map(|entry| bytes(&entry));
+    let answer = calls::cast(0, 1, 2, &[], &a, &b, &c, &[], &bytes(&[x]), &bytes(&w), &mut out);
     (answer, out)
 }
 
 fn decide(e: u32, x: u32, w: [u32; 2]) -> u32 {
-    calls::decide(0, 1, 2, &bytes(&A), &bytes(&B), &bytes(&C), &item(e, x, w), &bytes(&w))
+    calls::decide(0, 1, 2, &[], &bytes(&A), &bytes(&B), &bytes(&C), &item(e, x, w), &bytes(&w))
 }
 
 /// Quotient, new item and new witness.
@@ -42,6 +42,7 @@ fn fold(challenge: u32, items: &[(u32, [u32; 2])]) -> [Vec<u8>; 3] {
         2,
         items.len() as u32,
         challenge,
+        &[],
         &bytes(&A),
         &bytes(&B),
         &bytes(&C),
@@ -80,7 +81,7 @@ fn verify_and_decide_c8(a: u32) -> (u32, u32) {
     let positions = bytes(&[0, 1, 2, 3, 4, 5, 6, 7]);
     let mut opened = vec![0; 3 * 8 * OPENING];
     for (out, w) in opened.chunks_mut(8 * OPENING).zip([[2, 3], [4, 5], w]) {
-        assert_eq!(calls::open(2, 8, &bytes(&w), &positions, out), 0);
+        assert_eq!(calls::open(2, 8, &[], &bytes(&w), &positions, out), 0);
     }
     let mut openings = vec![0; 3 * 8 * OPENING];
     assert_eq!(calls::interleave(2, 2, 8, &opened, &mut openings), 0);
@@ -105,7 +106,7 @@ fn c8() {
 #[test]
 fn c9() {
     let (mut code, mut root) = (vec![0; 32], vec![0; 32]);
-    assert_eq!(calls::encode(2, &bytes(&[2, 3]), &mut code, &mut root), 0);
+    assert_eq!(calls::encode(2, &[], &bytes(&[2, 3]), &mut code, &mut root), 0);
     assert_eq!((&code[..4], &code[16..20]), (&bytes(&[5])[..], &bytes(&[P - 1])[..]));
 }
 

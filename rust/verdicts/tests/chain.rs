@@ -1,8 +1,8 @@
 //! Whole chains by the proved calls: folding an honest list, opening each witness, verifying and deciding all
-//! answer zero, with the bytes that the reference writes.
+//! answer zero, with the bytes that the reference writes. Of the random ones most are lent points.
 
 use lomvuze_reference::field::P;
-use lomvuze_samples::{library, Chain, Honest, Library, Random, REFERENCE};
+use lomvuze_samples::{library, points, Chain, Honest, Library, Random, REFERENCE};
 use lomvuze_verdicts as calls;
 
 const PROVED: Library = library!(calls);
@@ -47,11 +47,17 @@ fn chains_of_any_size() {
     }
 }
 
-/// The least and the greatest sizes, at all positions, with the least and the greatest challenge.
+/// The least and the greatest sizes, at all positions, with the least and the greatest challenge, and without points
+/// and with lent ones.
 #[test]
 fn extreme_chains() {
     let mut random = Random::new(3);
-    for list in [Honest::random(&mut random, 0, 1, 2, 1), Honest::greatest(&mut random)] {
+    let (least, greatest) = (Honest::random(&mut random, 0, 1, 2, 1), Honest::greatest(&mut random));
+    let lent = [&least, &greatest].map(|list| {
+        let points = points::different(&mut random, list.k);
+        list.clone().lent(points)
+    });
+    for list in [least, greatest].into_iter().chain(lent) {
         let all: Vec<u32> = (0..4 * list.k).collect();
         for challenge in [list.l, P - 1] {
             let chain = accepted(&list, challenge, &all);
@@ -64,7 +70,8 @@ fn extreme_chains() {
 #[test]
 fn folds_of_folds() {
     let mut random = Random::new(4);
-    let mut list = Honest::random(&mut random, 3, 2, 8, 4);
+    let points = points::different(&mut random, 8);
+    let mut list = Honest::random(&mut random, 3, 2, 8, 4).lent(points);
     for _ in 0..100 {
         let challenge = random_challenge(&mut random, &list);
         let positions = random_positions(&mut random, &list, 32);

@@ -4,7 +4,7 @@
 //! `cargo test --release --offline -p lomvuze-verdicts --test random -- --nocapture` prints how many calls had
 //! which answer.
 
-use lomvuze_samples::{library, Call, Comparison, Honest, Library, Name, Random, NAMES, REFERENCE};
+use lomvuze_samples::{library, points, Call, Comparison, Honest, Library, Name, Random, NAMES, REFERENCE};
 use lomvuze_verdicts as calls;
 
 const PROVED: Library = library!(calls);
@@ -64,14 +64,16 @@ fn decide() {
     random_calls(Name::Decide);
 }
 
-/// The greatest sizes, 1,024 entries in each list, and the greatest count of positions.
+/// The greatest sizes, 1,024 entries in each list, and the greatest count of positions, without points and with lent
+/// ones.
 #[test]
 fn greatest_sizes() {
     let mut random = Random::new(10);
     for name in NAMES {
         let mut comparison = comparison();
-        for t in [64, 256] {
-            let list = Honest::greatest(&mut random);
+        let points = points::different(&mut random, 64);
+        for (t, points) in [(64, vec![]), (256, points)] {
+            let list = Honest::greatest(&mut random).lent(points);
             let call = Call::over(&mut random, name, list, t);
             comparison.compare_checks(&mut random, &call);
         }
@@ -97,20 +99,29 @@ fn greatest_elements() {
 }
 
 /// Input buffers may be the same memory: one list of entries as A, B and C; an item that is folded alone, at
-/// the challenge that gives it back, as the new item.
+/// the challenge that gives it back, as the new item; the first points as the witness.
 #[test]
 fn inputs_may_overlap() {
     let mut random = Random::new(12);
     for _ in 0..100 {
         let list = Honest::of_small_size(&mut random);
-        let (m, n, k, a) = (list.m, list.n, list.k, &list.a);
+        let (m, n, k, a, points) = (list.m, list.n, list.k, &list.a, &list.points);
         let (item, w) = (&list.items[..list.item_length()], &list.witnesses[..list.witness_length()]);
-        let [proved, reference] = [PROVED, REFERENCE].map(|by| (by.decide)(m, n, k, a, a, a, item, w));
+        let [proved, reference] =
+            [PROVED, REFERENCE].map(|by| (by.decide)(m, n, k, points, a, a, a, item, w));
         assert_eq!(proved, reference);
 
         let position = &lomvuze_samples::bytes(&[random.below(4 * k as usize) as u32]);
         let mut opening = vec![0; list.opening_length()];
-        assert_eq!((PROVED.open)(k, 1, w, position, &mut opening), 0);
+        assert_eq!((PROVED.open)(k, 1, points, w, position, &mut opening), 0);
         assert_eq!((PROVED.verify)(m, n, k, 1, 1, 1, item, position, &[], item, &opening.repeat(2)), 0);
+
+        let points = points::built_in(k);
+        let [proved, reference] = [PROVED, REFERENCE].map(|by| {
+            let (mut code, mut root) = (vec![0; 16 * k as usize], [0; 32]);
+            let w = &points[..4 * k as usize];
+            ((by.encode)(k, &points, w, &mut code, &mut root), code, root)
+        });
+        assert_eq!(proved, reference);
     }
 }

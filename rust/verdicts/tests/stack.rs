@@ -1,5 +1,5 @@
 //! The stack that each call takes, where it is accepted, is within what `include/lomvuze.h` states: at the
-//! greatest sizes, and for the calls but the sheet reader at random sizes too. To see it:
+//! greatest sizes, without points and with lent ones, and for the calls but the sheet reader at random sizes too. To see it:
 //! `cargo test --release --offline -p lomvuze-verdicts --test stack -- --nocapture`.
 //!
 //! A thread runs the call on a stack of our own that is painted before: the deepest word that has changed says
@@ -7,7 +7,7 @@
 
 use lomvuze_reference::sheet::{write, MOST_BYTES};
 use lomvuze_samples::sheet::{of_length, Buffers, GREATEST};
-use lomvuze_samples::{library, Call, Honest, Library, Name, Random, NAMES};
+use lomvuze_samples::{library, points, Call, Honest, Library, Name, Random, NAMES};
 use lomvuze_verdicts as calls;
 use std::ffi::c_void;
 use std::hint::black_box;
@@ -107,8 +107,11 @@ fn test(name: Name, mut call: Call) -> usize {
 fn at_the_greatest_sizes() {
     let mut random = Random::new(1);
     let list = Honest::greatest(&mut random);
+    let lent = list.clone().lent(points::different(&mut random, list.k));
     for name in NAMES {
-        println!("{name:?} {}", test(name, Call::over(&mut random, name, list.clone(), 256)));
+        let [bytes, lent] =
+            [&list, &lent].map(|list| test(name, Call::over(&mut random, name, list.clone(), 256)));
+        println!("{name:?} {bytes}, with lent points {lent}");
     }
 }
 

@@ -10,7 +10,7 @@ use Rattle.chain.proofs.chain.Statement.{statement}
 use Rattle.chain.proofs.chain.Tie as tie
 
 -- The two buffers have their lengths.
-fit : (c : tie.Else1) → (let a = c .before .before .before .before .before .before .before .before .before .before .before .before .before .before .before .args in interleaveFits (a .k) (a .l) (a .t) (a .opened .now) (a .openings .now) ≡ true)
+fit : (c : tie.Else1) → (let a = c .before .before .before .before .before .before .before .before .before .before .before .before .before .before .before .before .args in interleaveFits (a .k) (a .l) (a .t) (a .opened .now) (a .openings .now) ≡ true)
 fit c = let test = c .before .fits2 in sym (test .ensures) ∙ not-false (test .result) (c .if1 .left)
 
 fits-requires : tie.Need-fits-requires
@@ -24,9 +24,9 @@ same-length-2 c = search needs
 
 returns : tie.Need-returns
 returns c =
-    let a = c .before .before .before .before .before .before .before .before .before .before .before .before .before .before .before .args in
+    let a = c .before .before .before .before .before .before .before .before .before .before .before .before .before .before .before .before .args in
     let test = c .before .fits2 in
-    none-called (a .m) (a .n) (a .k) (a .l) (a .t) (a .challenge) (a .a .now) (a .b .now) (a .c .now) (a .items .now) (a .wits .now) (a .positions .now) (a .quotient .now) (a .item .now) (a .wit .now) (a .opened .now) (a .openings .now) (sym (test .ensures) ∙ not-true (test .result) (c .if1 .taken))
+    none-called (a .m) (a .n) (a .k) (a .l) (a .t) (a .challenge) (a .points .now) (a .a .now) (a .b .now) (a .c .now) (a .items .now) (a .wits .now) (a .positions .now) (a .quotient .now) (a .item .now) (a .wit .now) (a .opened .now) (a .openings .now) (sym (test .ensures) ∙ not-true (test .result) (c .if1 .taken))
 
 lomvuze-fold-requires : tie.Need-lomvuze-fold-requires
 lomvuze-fold-requires c κs = search needs
@@ -48,18 +48,18 @@ same-length-7 c = search needs
 
 returns-2 : tie.Need-returns-2
 returns-2 c =
-    let a = c .before .before .before .before .before .before .before .before .before .before .before .before .before .before .before .before .before .before .before .before .before .before .before .before .before .before .args in
+    let a = c .before .before .before .before .before .before .before .before .before .before .before .before .before .before .before .before .before .before .before .before .before .before .before .before .before .before .before .args in
     let fold = c .before .before .before .before .before .before .before .lomvuze-fold in
-    fold-refuses (a .m) (a .n) (a .k) (a .l) (a .t) (a .challenge) (a .a .now) (a .b .now) (a .c .now) (a .items .now) (a .wits .now) (a .positions .now) (a .quotient .now) (a .item .now) (a .wit .now) (a .opened .now) (a .openings .now) (fit (c .before .before .before .before .before .before .before .before .before .before .before))
-    (fold .result) (fold .last .1 .1 .1 .1 .1 .1 .1 .1 .1 .1 .0) (fold .last .1 .1 .1 .1 .1 .1 .1 .1 .1 .1 .1 .0) (fold .last .1 .1 .1 .1 .1 .1 .1 .1 .1 .1 .1 .1 .0)
+    fold-refuses (a .m) (a .n) (a .k) (a .l) (a .t) (a .challenge) (a .points .now) (a .a .now) (a .b .now) (a .c .now) (a .items .now) (a .wits .now) (a .positions .now) (a .quotient .now) (a .item .now) (a .wit .now) (a .opened .now) (a .openings .now) (fit (c .before .before .before .before .before .before .before .before .before .before .before))
+    (fold .result) (fold .last .1 .1 .1 .1 .1 .1 .1 .1 .1 .1 .1 .0) (fold .last .1 .1 .1 .1 .1 .1 .1 .1 .1 .1 .1 .1 .0) (fold .last .1 .1 .1 .1 .1 .1 .1 .1 .1 .1 .1 .1 .1 .0)
     (fold .ensures .0) (fold .ensures .1 .0) (fold .ensures .1 .1 .0) (fold .ensures .1 .1 .1)
     (c .if2 .taken)
 
 show-requires : tie.Need-show-requires
 show-requires c κs =
-    let a = c .before .before .before .before .before .before .before .before .before .before .before .before .before .before .before .before .before .before .before .before .before .before .before .before .before .before .before .before .before .args in
+    let a = c .before .before .before .before .before .before .before .before .before .before .before .before .before .before .before .before .before .before .before .before .before .before .before .before .before .before .before .before .before .before .args in
     let fold = c .before .before .before .before .before .before .before .before .before .before .lomvuze-fold in (
-      wits-size (a .m) (a .n) (a .k) (a .l) (a .challenge) (a .a .now) (a .b .now) (a .c .now) (a .items .now) (a .wits .now) (a .quotient .now) (a .item .now) (a .wit .now)
+      wits-size (a .m) (a .n) (a .k) (a .l) (a .challenge) (a .points .now) (a .a .now) (a .b .now) (a .c .now) (a .items .now) (a .wits .now) (a .quotient .now) (a .item .now) (a .wit .now)
           (sym (fold .ensures .0) ∙ c .before .before .before .if2 .left),
       fit (c .before .before .before .before .before .before .before .before .before .before .before .before .before .before),
     )
@@ -81,13 +81,13 @@ same-length-12 c = search needs
 
 returns-3 : tie.Need-returns-3
 returns-3 c =
-    let a = c .before .before .before .before .before .before .before .before .before .before .before .before .before .before .before .before .before .before .before .before .before .before .before .before .before .before .before .before .before .before .before .before .before .before .before .args in
+    let a = c .before .before .before .before .before .before .before .before .before .before .before .before .before .before .before .before .before .before .before .before .before .before .before .before .before .before .before .before .before .before .before .before .before .before .before .before .args in
     let fold = c .before .before .before .before .before .before .before .before .before .before .before .before .before .before .before .before .lomvuze-fold in
     let shown = c .before .before .before .before .before .show in
-    open-refuses (a .m) (a .n) (a .k) (a .l) (a .t) (a .challenge) (a .a .now) (a .b .now) (a .c .now) (a .items .now) (a .wits .now) (a .positions .now) (a .quotient .now) (a .item .now) (a .wit .now) (a .opened .now) (a .openings .now) (fit (c .before .before .before .before .before .before .before .before .before .before .before .before .before .before .before .before .before .before .before .before))
-    (fold .result) (fold .last .1 .1 .1 .1 .1 .1 .1 .1 .1 .1 .0) (fold .last .1 .1 .1 .1 .1 .1 .1 .1 .1 .1 .1 .0) (fold .last .1 .1 .1 .1 .1 .1 .1 .1 .1 .1 .1 .1 .0)
+    open-refuses (a .m) (a .n) (a .k) (a .l) (a .t) (a .challenge) (a .points .now) (a .a .now) (a .b .now) (a .c .now) (a .items .now) (a .wits .now) (a .positions .now) (a .quotient .now) (a .item .now) (a .wit .now) (a .opened .now) (a .openings .now) (fit (c .before .before .before .before .before .before .before .before .before .before .before .before .before .before .before .before .before .before .before .before))
+    (fold .result) (fold .last .1 .1 .1 .1 .1 .1 .1 .1 .1 .1 .1 .0) (fold .last .1 .1 .1 .1 .1 .1 .1 .1 .1 .1 .1 .1 .0) (fold .last .1 .1 .1 .1 .1 .1 .1 .1 .1 .1 .1 .1 .1 .0)
     (fold .ensures .0) (fold .ensures .1 .0) (fold .ensures .1 .1 .0) (fold .ensures .1 .1 .1)
-    (c .before .before .before .before .before .before .before .before .before .if2 .left) (shown .result) (shown .last .1 .1 .1 .1 .1 .1 .0) (shown .last .1 .1 .1 .1 .1 .1 .1 .0) (shown .ensures .0) (shown .ensures .1 .0) (shown .ensures .1 .1)
+    (c .before .before .before .before .before .before .before .before .before .if2 .left) (shown .result) (shown .last .1 .1 .1 .1 .1 .1 .1 .0) (shown .last .1 .1 .1 .1 .1 .1 .1 .1 .0) (shown .ensures .0) (shown .ensures .1 .0) (shown .ensures .1 .1)
     (c .if3 .taken)
 
 verify-and-decide-requires : tie.Need-verify-and-decide-requires
@@ -110,13 +110,13 @@ same-length-17 c = search needs
 
 returns-4 : tie.Need-returns-4
 returns-4 c =
-    let a = c .before .before .before .before .before .before .before .before .before .before .before .before .before .before .before .before .before .before .before .before .before .before .before .before .before .before .before .before .before .before .before .before .before .before .before .before .before .before .before .before .args in
+    let a = c .before .before .before .before .before .before .before .before .before .before .before .before .before .before .before .before .before .before .before .before .before .before .before .before .before .before .before .before .before .before .before .before .before .before .before .before .before .before .before .before .before .args in
     let fold = c .before .before .before .before .before .before .before .before .before .before .before .before .before .before .before .before .before .before .before .before .before .lomvuze-fold in
     let shown = c .before .before .before .before .before .before .before .before .before .before .show in
-    all-called (a .m) (a .n) (a .k) (a .l) (a .t) (a .challenge) (a .a .now) (a .b .now) (a .c .now) (a .items .now) (a .wits .now) (a .positions .now) (a .quotient .now) (a .item .now) (a .wit .now) (a .opened .now) (a .openings .now) (fit (c .before .before .before .before .before .before .before .before .before .before .before .before .before .before .before .before .before .before .before .before .before .before .before .before .before))
-    (fold .result) (fold .last .1 .1 .1 .1 .1 .1 .1 .1 .1 .1 .0) (fold .last .1 .1 .1 .1 .1 .1 .1 .1 .1 .1 .1 .0) (fold .last .1 .1 .1 .1 .1 .1 .1 .1 .1 .1 .1 .1 .0)
+    all-called (a .m) (a .n) (a .k) (a .l) (a .t) (a .challenge) (a .points .now) (a .a .now) (a .b .now) (a .c .now) (a .items .now) (a .wits .now) (a .positions .now) (a .quotient .now) (a .item .now) (a .wit .now) (a .opened .now) (a .openings .now) (fit (c .before .before .before .before .before .before .before .before .before .before .before .before .before .before .before .before .before .before .before .before .before .before .before .before .before))
+    (fold .result) (fold .last .1 .1 .1 .1 .1 .1 .1 .1 .1 .1 .1 .0) (fold .last .1 .1 .1 .1 .1 .1 .1 .1 .1 .1 .1 .1 .0) (fold .last .1 .1 .1 .1 .1 .1 .1 .1 .1 .1 .1 .1 .1 .0)
     (fold .ensures .0) (fold .ensures .1 .0) (fold .ensures .1 .1 .0) (fold .ensures .1 .1 .1)
-    (c .before .before .before .before .before .before .before .before .before .before .before .before .before .before .if2 .left) (shown .result) (shown .last .1 .1 .1 .1 .1 .1 .0) (shown .last .1 .1 .1 .1 .1 .1 .1 .0) (shown .ensures .0) (shown .ensures .1 .0) (shown .ensures .1 .1)
+    (c .before .before .before .before .before .before .before .before .before .before .before .before .before .before .if2 .left) (shown .result) (shown .last .1 .1 .1 .1 .1 .1 .1 .0) (shown .last .1 .1 .1 .1 .1 .1 .1 .1 .0) (shown .ensures .0) (shown .ensures .1 .0) (shown .ensures .1 .1)
     (c .before .before .before .before .before .if3 .left) (c .verify-and-decide .result) (c .verify-and-decide .ensures)
 
 pub chain-spec : {M : Type 1} → statement M

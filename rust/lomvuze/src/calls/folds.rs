@@ -4,7 +4,9 @@ use super::count;
 use super::witnesses::in_order;
 use crate::buffers::{circuit_buffers, items_buffer, numbers_buffer, output, witnesses_buffer};
 use crate::refusal::accepted;
-use crate::{Challenge, Circuit, Folded, Item, Opening, Positions, Quotient, Refusal, Sizes, Witness, MAX_L};
+use crate::{
+    Challenge, Circuit, Folded, Item, Opening, Points, Positions, Quotient, Refusal, Sizes, Witness, MAX_L,
+};
 use lomvuze_verdicts as library;
 use std::slice::from_ref;
 
@@ -19,8 +21,9 @@ fn quotient_output(sizes: Sizes, l: usize) -> Vec<u8> {
 /// # Errors
 ///
 /// The first of these checks that fails:
-/// - [`Refusal::Sizes`], also where there are not as many witnesses as items
+/// - [`Refusal::Sizes`], also where there are not as many witnesses as items, or neither no points nor 4k
 /// - [`Refusal::Element`]
+/// - [`Refusal::Points`]
 /// - [`Refusal::Circuit`]
 /// - [`Refusal::Root`]
 /// - [`Refusal::Claim`]
@@ -28,27 +31,32 @@ fn quotient_output(sizes: Sizes, l: usize) -> Vec<u8> {
 /// # Example
 ///
 /// ```
-/// use lomvuze::{cast, quotient, Circuit, PublicInputs, Refusal, Sizes, Witness, R};
+/// use lomvuze::{cast, quotient, Circuit, Points, PublicInputs, Refusal, Sizes, Witness, R};
 ///
 /// fn main() -> Result<(), Refusal> {
 ///     // One row: w0 × w1 = x0.
 ///     let sizes = Sizes { m: 0, n: 1, k: 2 };
 ///     let circuit = Circuit::new([(0, 1, 1)], [(0, 2, 1)], [(0, 0, 1)]);
+///     let (points, r) = (Points::built_in(), R::default());
 ///     let mut witnesses = [Witness::from([2, 3]), Witness::from([4, 5])];
 ///     let items = [
-///         cast(sizes, &circuit, &R::default(), &PublicInputs::from([6]), &witnesses[0])?,
-///         cast(sizes, &circuit, &R::default(), &PublicInputs::from([20]), &witnesses[1])?,
+///         cast(sizes, &points, &circuit, &r, &PublicInputs::from([6]), &witnesses[0])?,
+///         cast(sizes, &points, &circuit, &r, &PublicInputs::from([20]), &witnesses[1])?,
 ///     ];
-///     assert_eq!(quotient(sizes, &circuit, &items, &witnesses)?, [4]);
-///     assert_eq!(quotient(sizes, &circuit, &items[..1], &witnesses[..1])?, []);
+///     assert_eq!(quotient(sizes, &points, &circuit, &items, &witnesses)?, [4]);
+///     assert_eq!(quotient(sizes, &points, &circuit, &items[..1], &witnesses[..1])?, []);
 ///
+///     // The roots of the items are those of codewords at their own points.
+///     let others = Points::from([0, 1, 2, 3, 4, 5, 6, 7]);
+///     assert_eq!(quotient(sizes, &others, &circuit, &items, &witnesses), Err(Refusal::Root));
 ///     witnesses.reverse();
-///     assert_eq!(quotient(sizes, &circuit, &items, &witnesses), Err(Refusal::Root));
+///     assert_eq!(quotient(sizes, &points, &circuit, &items, &witnesses), Err(Refusal::Root));
 ///     Ok(())
 /// }
 /// ```
 pub fn quotient(
     sizes: Sizes,
+    points: &Points,
     circuit: &Circuit,
     items: &[Item],
     witnesses: &[Witness],
@@ -56,8 +64,8 @@ pub fn quotient(
     let Sizes { m, n, k } = sizes;
     let [a, b, c] = circuit_buffers(circuit);
     let (l, packed, wits) = (count(items), items_buffer(sizes, items), witnesses_buffer(sizes, witnesses));
-    let mut quotient = quotient_output(sizes, items.len());
-    accepted(library::quotient(m, n, k, l, &a, &b, &c, &packed, &wits, &mut quotient))?;
+    let (points, mut quotient) = (numbers_buffer(points), quotient_output(sizes, items.len()));
+    accepted(library::quotient(m, n, k, l, &points, &a, &b, &c, &packed, &wits, &mut quotient))?;
     Quotient::from_bytes(&quotient)
 }
 
@@ -69,8 +77,9 @@ pub fn quotient(
 /// # Errors
 ///
 /// The first of these checks that fails:
-/// - [`Refusal::Sizes`], also where there are not as many witnesses as items
+/// - [`Refusal::Sizes`], also where there are not as many witnesses as items, or neither no points nor 4k
 /// - [`Refusal::Element`]
+/// - [`Refusal::Points`]
 /// - [`Refusal::Circuit`]
 /// - [`Refusal::Challenge`]
 /// - [`Refusal::Root`]
@@ -79,24 +88,25 @@ pub fn quotient(
 /// # Example
 ///
 /// ```
-/// use lomvuze::{cast, fold, Challenge, Circuit, PublicInputs, Refusal, Sizes, Witness, R};
+/// use lomvuze::{cast, fold, Challenge, Circuit, Points, PublicInputs, Refusal, Sizes, Witness, R};
 ///
 /// fn main() -> Result<(), Refusal> {
 ///     // One row: w0 × w1 = x0.
 ///     let sizes = Sizes { m: 0, n: 1, k: 2 };
 ///     let circuit = Circuit::new([(0, 1, 1)], [(0, 2, 1)], [(0, 0, 1)]);
+///     let (points, r) = (Points::built_in(), R::default());
 ///     let witnesses = [Witness::from([2, 3]), Witness::from([4, 5])];
 ///     let items = [
-///         cast(sizes, &circuit, &R::default(), &PublicInputs::from([6]), &witnesses[0])?,
-///         cast(sizes, &circuit, &R::default(), &PublicInputs::from([20]), &witnesses[1])?,
+///         cast(sizes, &points, &circuit, &r, &PublicInputs::from([6]), &witnesses[0])?,
+///         cast(sizes, &points, &circuit, &r, &PublicInputs::from([20]), &witnesses[1])?,
 ///     ];
-///     let folded = fold(sizes, Challenge::from(3), &circuit, &items, &witnesses)?;
+///     let folded = fold(sizes, Challenge::from(3), &points, &circuit, &items, &witnesses)?;
 ///     assert_eq!(folded.quotient, [4]);
 ///     assert_eq!(folded.item.e, 24);
 ///     assert_eq!(folded.item.x, [48]);
 ///     assert_eq!(folded.witness, [8, 9]);
 ///
-///     let at_a_node = fold(sizes, Challenge::from(1), &circuit, &items, &witnesses);
+///     let at_a_node = fold(sizes, Challenge::from(1), &points, &circuit, &items, &witnesses);
 ///     assert_eq!(at_a_node, Err(Refusal::Challenge));
 ///     Ok(())
 /// }
@@ -104,6 +114,7 @@ pub fn quotient(
 pub fn fold(
     sizes: Sizes,
     challenge: Challenge,
+    points: &Points,
     circuit: &Circuit,
     items: &[Item],
     witnesses: &[Witness],
@@ -114,8 +125,23 @@ pub fn fold(
     let mut quotient = quotient_output(sizes, items.len());
     let (mut item, mut wit) = (output(sizes, Sizes::item_bytes), output(sizes, Sizes::witness_bytes));
     let (to_quotient, to_item, to_wit) = (&mut quotient, &mut item, &mut wit);
-    let at = challenge.into();
-    accepted(library::fold(m, n, k, l, at, &a, &b, &c, &packed, &wits, to_quotient, to_item, to_wit))?;
+    let (at, points) = (challenge.into(), numbers_buffer(points));
+    accepted(library::fold(
+        m,
+        n,
+        k,
+        l,
+        at,
+        &points,
+        &a,
+        &b,
+        &c,
+        &packed,
+        &wits,
+        to_quotient,
+        to_item,
+        to_wit,
+    ))?;
     Ok(Folded {
         quotient: Quotient::from_bytes(&quotient)?,
         item: Item::from_bytes(sizes, &item)?,
@@ -144,21 +170,21 @@ pub fn fold(
 ///
 /// ```
 /// use lomvuze::{cast, fold, open, verify};
-/// use lomvuze::{Challenge, Circuit, Folded, Positions, PublicInputs, Refusal, Sizes, Witness, R};
+/// use lomvuze::{Challenge, Circuit, Folded, Points, Positions, PublicInputs, Refusal, Sizes, Witness, R};
 ///
 /// fn main() -> Result<(), Refusal> {
 ///     // One row: w0 × w1 = x0.
 ///     let sizes = Sizes { m: 0, n: 1, k: 2 };
 ///     let circuit = Circuit::new([(0, 1, 1)], [(0, 2, 1)], [(0, 0, 1)]);
-///     let witness = Witness::from([2, 3]);
-///     let items = [cast(sizes, &circuit, &R::default(), &PublicInputs::from([6]), &witness)?];
+///     let (points, witness) = (Points::built_in(), Witness::from([2, 3]));
+///     let items = [cast(sizes, &points, &circuit, &R::default(), &PublicInputs::from([6]), &witness)?];
 ///
 ///     let challenge = Challenge::from(2);
 ///     let Folded { quotient, item, witness: new_witness, .. } =
-///         fold(sizes, challenge, &circuit, &items, std::slice::from_ref(&witness))?;
+///         fold(sizes, challenge, &points, &circuit, &items, std::slice::from_ref(&witness))?;
 ///     let positions = Positions::from([1, 5]);
 ///     let mut openings =
-///         [open(2, &witness, &positions)?, open(2, &new_witness, &positions)?];
+///         [open(2, &points, &witness, &positions)?, open(2, &points, &new_witness, &positions)?];
 ///     verify(sizes, challenge, &items, &positions, &quotient, &item, &openings)?;
 ///
 ///     openings[0][1].value += 1;

@@ -2,7 +2,7 @@
 
 use crate::buffers::{circuit_buffers, items_buffer, numbers_buffer, output};
 use crate::refusal::accepted;
-use crate::{Circuit, Item, PublicInputs, Refusal, Sizes, Witness, R};
+use crate::{Circuit, Item, Points, PublicInputs, Refusal, Sizes, Witness, R};
 use lomvuze_verdicts as library;
 use std::slice::from_ref;
 
@@ -15,33 +15,36 @@ use std::slice::from_ref;
 /// # Errors
 ///
 /// The first of these checks that fails:
-/// - [`Refusal::Sizes`], also where there are not m numbers in r, n in x and k in the witness
+/// - [`Refusal::Sizes`], also where there are not m numbers in r, n in x and k in the witness, or neither no points nor
+///   4k
 /// - [`Refusal::Element`]
+/// - [`Refusal::Points`]
 /// - [`Refusal::Circuit`]
 /// - [`Refusal::Claim`]
 ///
 /// # Example
 ///
 /// ```
-/// use lomvuze::{cast, encode, Circuit, PublicInputs, Refusal, Sizes, Witness, R};
+/// use lomvuze::{cast, encode, Circuit, Points, PublicInputs, Refusal, Sizes, Witness, R};
 ///
 /// fn main() -> Result<(), Refusal> {
 ///     // One row: w0 × w1 = x0. It needs no r.
 ///     let sizes = Sizes { m: 0, n: 1, k: 2 };
 ///     let circuit = Circuit::new([(0, 1, 1)], [(0, 2, 1)], [(0, 0, 1)]);
-///     let (r, witness) = (R::default(), Witness::from([2, 3]));
-///     let item = cast(sizes, &circuit, &r, &PublicInputs::from([6]), &witness)?;
-///     assert_eq!((item.e, item.root), (0, encode(2, &witness)?.root));
+///     let (points, r, witness) = (Points::built_in(), R::default(), Witness::from([2, 3]));
+///     let item = cast(sizes, &points, &circuit, &r, &PublicInputs::from([6]), &witness)?;
+///     assert_eq!((item.e, item.root), (0, encode(2, &points, &witness)?.root));
 ///
-///     let seven = cast(sizes, &circuit, &r, &PublicInputs::from([7]), &witness);
+///     let seven = cast(sizes, &points, &circuit, &r, &PublicInputs::from([7]), &witness);
 ///     assert_eq!(seven, Err(Refusal::Claim));
-///     let with_r = cast(sizes, &circuit, &R::from([1]), &PublicInputs::from([6]), &witness);
+///     let with_r = cast(sizes, &points, &circuit, &R::from([1]), &PublicInputs::from([6]), &witness);
 ///     assert_eq!(with_r, Err(Refusal::Sizes));
 ///     Ok(())
 /// }
 /// ```
 pub fn cast(
     sizes: Sizes,
+    points: &Points,
     circuit: &Circuit,
     r: &R,
     x: &PublicInputs,
@@ -50,19 +53,21 @@ pub fn cast(
     let Sizes { m, n, k } = sizes;
     let [a, b, c] = circuit_buffers(circuit);
     let (r, x, w) = (numbers_buffer(r), numbers_buffer(x), numbers_buffer(witness));
-    let mut item = output(sizes, Sizes::item_bytes);
-    accepted(library::cast(m, n, k, &a, &b, &c, &r, &x, &w, &mut item))?;
+    let (points, mut item) = (numbers_buffer(points), output(sizes, Sizes::item_bytes));
+    accepted(library::cast(m, n, k, &points, &a, &b, &c, &r, &x, &w, &mut item))?;
     Item::from_bytes(sizes, &item)
 }
 
-/// Decides an item with its witness. The circuit is the one that was agreed on, and the item, where it is the new
+/// Decides an item with its witness. Points and circuit are those that were agreed on, and the item, where it is the new
 /// one of a fold, the very one that [`verify`](crate::verify) accepted.
 ///
 /// # Errors
 ///
 /// The first of these checks that fails:
-/// - [`Refusal::Sizes`], also where there are not m numbers in the item's r, n in its x and k in the witness
+/// - [`Refusal::Sizes`], also where there are not m numbers in the item's r, n in its x and k in the witness, or neither
+///   no points nor 4k
 /// - [`Refusal::Element`]
+/// - [`Refusal::Points`]
 /// - [`Refusal::Circuit`]
 /// - [`Refusal::Root`]
 /// - [`Refusal::Claim`]
@@ -70,25 +75,33 @@ pub fn cast(
 /// # Example
 ///
 /// ```
-/// use lomvuze::{decide, encode, Circuit, Item, PublicInputs, Refusal, Sizes, Witness, R};
+/// use lomvuze::{decide, encode, Circuit, Item, Points, PublicInputs, Refusal, Sizes, Witness, R};
 ///
 /// fn main() -> Result<(), Refusal> {
 ///     // One row: w0 × w1 = x0.
 ///     let sizes = Sizes { m: 0, n: 1, k: 2 };
 ///     let circuit = Circuit::new([(0, 1, 1)], [(0, 2, 1)], [(0, 0, 1)]);
-///     let witness = Witness::from([4, 5]);
-///     let root = encode(2, &witness)?.root;
-///     decide(sizes, &circuit, &Item::new(R::default(), PublicInputs::from([20]), root), &witness)?;
+///     let (points, witness) = (Points::built_in(), Witness::from([4, 5]));
+///     let root = encode(2, &points, &witness)?.root;
+///     let item = Item::new(R::default(), PublicInputs::from([20]), root);
+///     decide(sizes, &points, &circuit, &item, &witness)?;
 ///
 ///     let false_one = Item::new(R::default(), PublicInputs::from([21]), root);
-///     assert_eq!(decide(sizes, &circuit, &false_one, &witness), Err(Refusal::Claim));
-///     assert_eq!(decide(sizes, &circuit, &false_one, &Witness::from([3, 7])), Err(Refusal::Root));
+///     assert_eq!(decide(sizes, &points, &circuit, &false_one, &witness), Err(Refusal::Claim));
+///     let other = Witness::from([3, 7]);
+///     assert_eq!(decide(sizes, &points, &circuit, &false_one, &other), Err(Refusal::Root));
 ///     Ok(())
 /// }
 /// ```
-pub fn decide(sizes: Sizes, circuit: &Circuit, item: &Item, witness: &Witness) -> Result<(), Refusal> {
+pub fn decide(
+    sizes: Sizes,
+    points: &Points,
+    circuit: &Circuit,
+    item: &Item,
+    witness: &Witness,
+) -> Result<(), Refusal> {
     let Sizes { m, n, k } = sizes;
     let [a, b, c] = circuit_buffers(circuit);
     let (item, w) = (items_buffer(sizes, from_ref(item)), numbers_buffer(witness));
-    accepted(library::decide(m, n, k, &a, &b, &c, &item, &w))
+    accepted(library::decide(m, n, k, &numbers_buffer(points), &a, &b, &c, &item, &w))
 }

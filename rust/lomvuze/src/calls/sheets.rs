@@ -46,7 +46,7 @@ fn front<T>(
 /// # Example
 ///
 /// ```
-/// use lomvuze::{decide, encode, read_sheet, Circuit, Refusal, Sheet, Sizes};
+/// use lomvuze::{decide, encode, read_sheet, Circuit, Points, Refusal, Sheet, Sizes};
 ///
 /// fn main() -> Result<(), Refusal> {
 ///     // One row, w0 × w1 = x0, and two items. Their roots are left open: zeros.
@@ -69,12 +69,14 @@ fn front<T>(
 ///     assert_eq!(witnesses[1], [4, 5]);
 ///
 ///     // No item is accepted without its root.
-///     assert_eq!(decide(sizes, &circuit, &items[0], &witnesses[0]), Err(Refusal::Root));
+///     let points = Points::built_in();
+///     assert_eq!(decide(sizes, &points, &circuit, &items[0], &witnesses[0]), Err(Refusal::Root));
 ///     for (item, witness) in items.iter_mut().zip(&witnesses) {
-///         item.root = encode(sizes.k, witness)?.root;
+///         item.root = encode(sizes.k, &points, witness)?.root;
 ///     }
-///     decide(sizes, &circuit, &items[0], &witnesses[0])?;
-///     assert_eq!(decide(sizes, &circuit, &items[1], &witnesses[1]), Err(Refusal::Claim)); // 4 × 5 is 20
+///     decide(sizes, &points, &circuit, &items[0], &witnesses[0])?;
+///     let second = decide(sizes, &points, &circuit, &items[1], &witnesses[1]);
+///     assert_eq!(second, Err(Refusal::Claim)); // 4 × 5 is 20
 ///
 ///     // A pair was lost on the way.
 ///     assert_eq!(read_sheet(text.replace("end\t2", "end\t3").as_bytes()), Err(Refusal::Sizes));

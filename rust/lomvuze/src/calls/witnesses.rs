@@ -4,36 +4,41 @@ use super::{count, sizes_of_witness};
 use crate::buffers::{numbers_buffer, opened_buffer, output};
 use crate::refusal::accepted;
 use crate::sizes::MOST_NUMBERS;
-use crate::{numbers_from_bytes, Encoded, Opening, Positions, Refusal, Sizes, Witness, MAX_L};
+use crate::{numbers_from_bytes, Encoded, Opening, Points, Positions, Refusal, Sizes, Witness, MAX_L};
 use lomvuze_verdicts as library;
 
 /// The codeword of a witness and the root of the tree over it.
 ///
-/// The codeword has at position i the sum over j of w_j × (g^i)^j, where g = 31^((p − 1) / 4k). The tree is
-/// that of RFC 6962, section 2.1, with SHA-256: a leaf is the byte 0, a position and the value there, in four
+/// The codeword has at position i the sum over j of w_j × (point i)^j. The tree is that of RFC 6962, section 2.1, with SHA-256: a leaf is the byte 0, a position and the value there, in four
 /// bytes each, lowest first; an inner node is the byte 1 and the digests of its two children.
 ///
 /// # Errors
 ///
 /// The first of these checks that fails:
-/// - [`Refusal::Sizes`], also where there are not k numbers
+/// - [`Refusal::Sizes`], also where there are not k numbers, or neither no points nor 4k
 /// - [`Refusal::Element`]
+/// - [`Refusal::Points`]
 ///
 /// # Example
 ///
 /// ```
-/// use lomvuze::{encode, Refusal, Witness, P};
+/// use lomvuze::{encode, Points, Refusal, Witness, P};
 ///
 /// fn main() -> Result<(), Refusal> {
-///     let encoded = encode(2, &Witness::from([2, 3]))?;
+///     let witness = Witness::from([2, 3]);
+///     let encoded = encode(2, &Points::built_in(), &witness)?;
 ///     assert_eq!(encoded.code.len(), 8);
 ///     assert_eq!((encoded.code[0], encoded.code[4]), (5, P - 1)); // 2 + 3 and 2 - 3
+///
+///     let at_others = encode(2, &Points::from([10, 11, 12, 13, 14, 15, 16, 17]), &witness)?;
+///     assert_eq!(at_others.code, [32, 35, 38, 41, 44, 47, 50, 53]);
+///     assert_ne!(at_others.root, encoded.root);
 ///     Ok(())
 /// }
 /// ```
-pub fn encode(k: u32, witness: &Witness) -> Result<Encoded, Refusal> {
+pub fn encode(k: u32, points: &Points, witness: &Witness) -> Result<Encoded, Refusal> {
     let (mut code, mut root) = (output(sizes_of_witness(k), Sizes::codeword_bytes), [0; 32]);
-    accepted(library::encode(k, &numbers_buffer(witness), &mut code, &mut root))?;
+    accepted(library::encode(k, &numbers_buffer(points), &numbers_buffer(witness), &mut code, &mut root))?;
     Ok(Encoded { code: numbers_from_bytes(&code)?, root })
 }
 
@@ -45,31 +50,37 @@ pub fn encode(k: u32, witness: &Witness) -> Result<Encoded, Refusal> {
 /// # Errors
 ///
 /// The first of these checks that fails:
-/// - [`Refusal::Sizes`], also where there are not k numbers
+/// - [`Refusal::Sizes`], also where there are not k numbers, or neither no points nor 4k
 /// - [`Refusal::Element`]
+/// - [`Refusal::Points`]
 /// - [`Refusal::Position`]
 ///
 /// # Example
 ///
 /// ```
-/// use lomvuze::{encode, open, Positions, Refusal, Witness};
+/// use lomvuze::{encode, open, Points, Positions, Refusal, Witness};
 ///
 /// fn main() -> Result<(), Refusal> {
-///     let witness = Witness::from([2, 3]);
-///     let openings = open(2, &witness, &Positions::from([0, 7]))?;
+///     let (points, witness) = (Points::built_in(), Witness::from([2, 3]));
+///     let openings = open(2, &points, &witness, &Positions::from([0, 7]))?;
 ///     assert_eq!(openings.len(), 2);
 ///     assert_eq!((openings[0].value, openings[0].path.len()), (5, 3));
-///     assert_eq!(openings[1].value, encode(2, &witness)?.code[7]);
+///     assert_eq!(openings[1].value, encode(2, &points, &witness)?.code[7]);
 ///
-///     assert_eq!(open(2, &witness, &Positions::from([8])), Err(Refusal::Position));
+///     assert_eq!(open(2, &points, &witness, &Positions::from([8])), Err(Refusal::Position));
 ///     Ok(())
 /// }
 /// ```
-pub fn open(k: u32, witness: &Witness, positions: &Positions) -> Result<Vec<Opening>, Refusal> {
+pub fn open(
+    k: u32,
+    points: &Points,
+    witness: &Witness,
+    positions: &Positions,
+) -> Result<Vec<Opening>, Refusal> {
     let (sizes, t) = (sizes_of_witness(k), positions.len().min(MOST_NUMBERS));
     let mut openings = output(sizes, |sizes| sizes.openings_bytes(t));
-    let (w, places) = (numbers_buffer(witness), numbers_buffer(positions));
-    accepted(library::open(k, count(positions), &w, &places, &mut openings))?;
+    let (points, w, places) = (numbers_buffer(points), numbers_buffer(witness), numbers_buffer(positions));
+    accepted(library::open(k, count(positions), &points, &w, &places, &mut openings))?;
     parts(sizes, &openings)
 }
 
@@ -87,12 +98,12 @@ pub fn open(k: u32, witness: &Witness, positions: &Positions) -> Result<Vec<Open
 /// # Example
 ///
 /// ```
-/// use lomvuze::{interleave, open, Positions, Refusal, Witness};
+/// use lomvuze::{interleave, open, Points, Positions, Refusal, Witness};
 ///
 /// fn main() -> Result<(), Refusal> {
-///     let positions = Positions::from([0, 7, 4]);
-///     let item = open(2, &Witness::from([2, 3]), &positions)?;
-///     let new_item = open(2, &Witness::from([6, 7]), &positions)?;
+///     let (points, positions) = (Points::built_in(), Positions::from([0, 7, 4]));
+///     let item = open(2, &points, &Witness::from([2, 3]), &positions)?;
+///     let new_item = open(2, &points, &Witness::from([6, 7]), &positions)?;
 ///
 ///     let ordered = interleave(2, &[&item[..], &new_item])?;
 ///     assert_eq!(ordered.len(), 6);

@@ -3,14 +3,15 @@
 use crate::longest::longest_buffer;
 use lomvuze::{cast, decide, encode, fold, interleave, open, quotient, verify};
 use lomvuze::{
-    Challenge, Circuit, Folded, Item, Opening, Positions, PublicInputs, Refusal, Sizes, Witness, R,
+    Challenge, Circuit, Folded, Item, Opening, Points, Positions, PublicInputs, Refusal, Sizes, Witness, R,
 };
 
-/// A fold of two items with m = 1, n = 2, k = 4 and t = 3, with all that a call takes. The circuit has no
+/// A fold of two items with m = 1, n = 2, k = 4 and t = 3, with lent points and all else that a call takes. The circuit has no
 /// entries, so every witness has the value 0.
 #[derive(Clone)]
 pub struct Arguments {
     pub sizes: Sizes,
+    pub points: Points,
     pub circuit: Circuit,
     pub r: R,
     pub x: PublicInputs,
@@ -25,39 +26,41 @@ pub struct Arguments {
 impl Arguments {
     pub fn new() -> Result<Arguments, Refusal> {
         let sizes = Sizes { m: 1, n: 2, k: 4 };
+        let points: Points = (0..16).map(|i| 3 * i).collect();
         let circuit = Circuit::default();
         let witnesses = vec![Witness::from([1, 2, 3, 4]), Witness::from([5, 6, 7, 8])];
         let (r, x) = (R::from([9]), PublicInputs::from([10, 11]));
         let items = vec![
-            cast(sizes, &circuit, &r, &x, &witnesses[0])?,
-            cast(sizes, &circuit, &R::from([12]), &PublicInputs::from([13, 14]), &witnesses[1])?,
+            cast(sizes, &points, &circuit, &r, &x, &witnesses[0])?,
+            cast(sizes, &points, &circuit, &R::from([12]), &PublicInputs::from([13, 14]), &witnesses[1])?,
         ];
         let positions = Positions::from([0, 15, 7]);
-        let folded = fold(sizes, Challenge::from(100), &circuit, &items, &witnesses)?;
+        let folded = fold(sizes, Challenge::from(100), &points, &circuit, &items, &witnesses)?;
         let opened = witnesses.iter().chain([&folded.witness]);
-        let openings = opened.map(|w| open(4, w, &positions)).collect::<Result<_, _>>()?;
+        let openings = opened.map(|w| open(4, &points, w, &positions)).collect::<Result<_, _>>()?;
         let witness = witnesses[0].clone();
-        Ok(Arguments { sizes, circuit, r, x, witness, items, witnesses, positions, folded, openings })
+        Ok(Arguments { sizes, points, circuit, r, x, witness, items, witnesses, positions, folded, openings })
     }
 
     pub fn encode(&self) -> Result<(), Refusal> {
-        encode(self.sizes.k, &self.witness).map(drop)
+        encode(self.sizes.k, &self.points, &self.witness).map(drop)
     }
 
     pub fn cast(&self) -> Result<(), Refusal> {
-        cast(self.sizes, &self.circuit, &self.r, &self.x, &self.witness).map(drop)
+        cast(self.sizes, &self.points, &self.circuit, &self.r, &self.x, &self.witness).map(drop)
     }
 
     pub fn quotient(&self) -> Result<(), Refusal> {
-        quotient(self.sizes, &self.circuit, &self.items, &self.witnesses).map(drop)
+        quotient(self.sizes, &self.points, &self.circuit, &self.items, &self.witnesses).map(drop)
     }
 
     pub fn fold(&self) -> Result<(), Refusal> {
-        fold(self.sizes, Challenge::from(100), &self.circuit, &self.items, &self.witnesses).map(drop)
+        let Arguments { sizes, points, circuit, items, witnesses, .. } = self;
+        fold(*sizes, Challenge::from(100), points, circuit, items, witnesses).map(drop)
     }
 
     pub fn open(&self) -> Result<(), Refusal> {
-        open(self.sizes.k, &self.witness, &self.positions).map(drop)
+        open(self.sizes.k, &self.points, &self.witness, &self.positions).map(drop)
     }
 
     pub fn interleave(&self) -> Result<(), Refusal> {
@@ -70,7 +73,7 @@ impl Arguments {
     }
 
     pub fn decide(&self) -> Result<(), Refusal> {
-        decide(self.sizes, &self.circuit, &self.folded.item, &self.folded.witness)
+        decide(self.sizes, &self.points, &self.circuit, &self.folded.item, &self.folded.witness)
     }
 }
 

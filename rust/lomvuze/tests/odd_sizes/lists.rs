@@ -1,7 +1,7 @@
 //! Lists of other lengths.
 
 use crate::arguments::{answers, change, Arguments};
-use lomvuze::{Entry, Item, MAX_ENTRIES, MAX_L};
+use lomvuze::{Entry, Item, Points, MAX_ENTRIES, MAX_L};
 
 /// A list that is one too long, one too short, empty, or very long.
 fn lengths<T: Clone>(list: &[T]) -> [Vec<T>; 4] {
@@ -12,6 +12,9 @@ fn lengths<T: Clone>(list: &[T]) -> [Vec<T>; 4] {
 #[test]
 fn lists_of_numbers() {
     let honest = Arguments::new().unwrap();
+    for points in lengths(&honest.points).into_iter().filter(|points| !points.is_empty()) {
+        assert_eq!(answers(|all| all.points = points.clone().into()), [2, 2, 2, 2, 2, 0, 0, 2]);
+    }
     for r in lengths(&honest.r) {
         assert_eq!(answers(|all| all.r = r.clone().into()), [0, 2, 0, 0, 0, 0, 0, 0]);
     }
@@ -42,6 +45,17 @@ fn lists_of_numbers() {
             "t = {count}"
         );
     }
+}
+
+/// Counts of points for another k, and no points: the roots are not those of the built-in ones.
+#[test]
+fn counts_of_points() {
+    for count in [1, 4, 8, 32, 64, 256, 257] {
+        let change = |all: &mut Arguments| all.points = (0..count).collect();
+        assert_eq!(answers(change), [2, 2, 2, 2, 2, 0, 0, 2], "{count} points");
+    }
+    assert_eq!(answers(|all| all.points = Points::built_in()), [0, 0, 10, 10, 0, 0, 0, 10]);
+    assert_eq!(answers(|all| all.points[15] = 0), [12, 12, 12, 12, 12, 0, 0, 12]);
 }
 
 #[test]

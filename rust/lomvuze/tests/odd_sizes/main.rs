@@ -42,6 +42,7 @@ fn fitting_lists() {
                 change(witness, |numbers| numbers.resize(k as usize, 1));
             }
             let opening = Opening { value: 0, path: vec![[0; 32]; all.sizes.depth()] };
+            all.points = (0..4 * k).collect();
             all.positions = [0; 256].into();
             all.openings = vec![vec![opening; 256]; 3];
         };

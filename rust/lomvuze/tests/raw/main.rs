@@ -8,10 +8,11 @@ use lomvuze::{Sizes, MAX_SHEET};
 use lomvuze_reference::sheet::{write, Reading};
 use lomvuze_samples::sheet::damage::{damaged, failing, junk};
 use lomvuze_samples::sheet::{accepted, of_length, Buffers, Shape, GREATEST};
-use lomvuze_samples::{library, Call, Chain, Comparison, Honest, Library, Random, NAMES};
+use lomvuze_samples::{library, points, Call, Chain, Comparison, Honest, Library, Random, NAMES};
 use lomvuze_verdicts as verdicts;
 
 mod calls;
+mod layout;
 mod sheet;
 
 #[path = "../../../samples/edges.rs"]
@@ -35,13 +36,14 @@ fn random_calls() {
     }
 }
 
-/// The greatest sizes, 1,024 entries in each list, and the greatest count of positions.
+/// The greatest sizes, 256 points, 1,024 entries in each list, and the greatest count of positions.
 #[test]
 fn greatest_sizes() {
     let mut random = Random::new(1);
     for name in NAMES {
         let mut comparison = comparison();
-        let list = Honest::greatest(&mut random);
+        let points = points::different(&mut random, 64);
+        let list = Honest::greatest(&mut random).lent(points);
         let call = Call::over(&mut random, name, list, 256);
         comparison.compare_checks(&mut random, &call);
         comparison.finish(name, 1);
@@ -56,6 +58,7 @@ fn lengths() {
         let list = Honest::of_any_size(&mut random);
         let chain = Chain::new(&LIBRARY, &list, list.l, &[0, 1, 2]);
         let (sizes, l) = (Sizes { m: list.m, n: list.n, k: list.k }, list.l as usize);
+        assert!(list.points.is_empty() || sizes.points_bytes() == list.points.len());
         assert_eq!(sizes.items_bytes(l), list.items.len());
         assert_eq!(sizes.item_bytes(), chain.new_item.len());
         assert_eq!(sizes.witnesses_bytes(l), list.witnesses.len());

@@ -9,7 +9,8 @@ use lomvuze_reference::polynomial::Polynomial;
 
 impl Call {
     /// Puts another witness behind the root of an item, at all its openings: the openings lead to the root,
-    /// and at one position at least the values do not combine.
+    /// and at one position at least the values do not combine. Its codeword is at the built-in points: verifying sees
+    /// values and knows no points.
     pub(super) fn show_another_witness(&mut self, random: &mut Random) {
         let [m, n, k, l, t] = ['m', 'n', 'k', 'l', 't'].map(|letter| self.number(letter));
         if m > 6 || n > 64 || !(2..=64).contains(&k) || l > 8 || !(1..=256).contains(&t) {
@@ -33,24 +34,28 @@ impl Call {
         let first = random.below(shown.len());
         shown.rotate_left(first);
         shown.truncate(k);
-        let w = another_witness(k, &shown);
+        if shown.iter().any(|(position, _)| *position as usize >= 4 * k) {
+            return;
+        }
+        let points = code::built_in_points(k);
+        let w = another_witness(&points, k, &shown);
 
         let mut opened = vec![0; t * length];
-        if calls::open(k as u32, t as u32, &element_bytes(&w), positions, &mut opened) != 0 {
+        if calls::open(k as u32, t as u32, &[], &element_bytes(&w), positions, &mut opened) != 0 {
             return;
         }
         for q in 0..t {
             openings[opening(q)..][..length].copy_from_slice(&opened[q * length..][..length]);
         }
         let item = if i < l { &mut items[i * item_length..][..item_length] } else { &mut new_item[..] };
-        item[item_length - 32..].copy_from_slice(&code::root(&w));
+        item[item_length - 32..].copy_from_slice(&code::root(&points, &w));
     }
 }
 
 /// The witness whose codeword has at up to k positions the values shown there, but another one at the first:
 /// by Lagrange's rule.
-fn another_witness(k: usize, shown: &[(u32, u32)]) -> Vec<Element> {
-    let points: Vec<Element> = shown.iter().map(|(position, _)| code::point(k, *position as usize)).collect();
+fn another_witness(all: &[Element], k: usize, shown: &[(u32, u32)]) -> Vec<Element> {
+    let points: Vec<Element> = shown.iter().map(|(position, _)| all[*position as usize]).collect();
     let mut sum = Polynomial::from(ZERO);
     for (j, (_, value)) in shown.iter().enumerate() {
         let value = Element::reduce(*value as u64) + if j == 0 { ONE } else { ZERO };

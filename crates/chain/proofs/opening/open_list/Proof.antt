@@ -18,32 +18,32 @@ use Rattle.chain.proofs.opening.open_list.Statement.{statement}
 use Rattle.chain.proofs.opening.open_list.Tie as tie
 
 abbrev Inv-loop : tie.InvT-loop
-Inv-loop k l t wits positions opened₀ size width answer₀ i₀ opened answer i =
+Inv-loop k l t points wits positions opened₀ size width answer₀ i₀ opened answer i =
     (i ≤ l)
-    × (answer ≡ firstRefusal (build i (λ j. openItem k t size wits positions opened₀ j .answer)))
-    × Filled size (λ j. openItem k t size wits positions opened₀ j .openings) opened₀ i opened
+    × (answer ≡ firstRefusal (build i (λ j. openItem k t size points wits positions opened₀ j .answer)))
+    × Filled size (λ j. openItem k t size points wits positions opened₀ j .openings) opened₀ i opened
 
 abbrev μ-loop : tie.MeasureT-loop
-μ-loop k l t wits positions opened₀ size width answer₀ i₀ opened answer i = l - i
+μ-loop k l t points wits positions opened₀ size width answer₀ i₀ opened answer i = l - i
 
 -- Witness i, and its part of the openings, lie within.
 from-room : (c : tie.In-loop Inv-loop μ-loop)
-    → (let a = c .before .before .before .before .before .args in let i = c .before .loop .i in i * (4 * a .k) + 4 * a .k ≤ length (a .wits .now))
+    → (let a = c .before .before .before .before .before .before .args in let i = c .before .loop .i in i * (4 * a .k) + 4 * a .k ≤ length (a .wits .now))
 from-room c =
-    let start = c .before .before .before .before .before in
+    let start = c .before .before .before .before .before .before in
     part-within (start .args .l) (c .before .loop .i) (4 * start .args .k) _ (c .loop-test .taken) (start .pre .0)
 
 to-room : (c : tie.In-loop Inv-loop μ-loop)
-    → (let a = c .before .before .before .before .before .args in let i = c .before .loop .i in i * a .size + a .size ≤ length (a .opened .now))
+    → (let a = c .before .before .before .before .before .before .args in let i = c .before .loop .i in i * a .size + a .size ≤ length (a .opened .now))
 to-room c =
-    let start = c .before .before .before .before .before in
+    let start = c .before .before .before .before .before .before in
     omega (arith, part-within (start .args .l) (c .before .loop .i) (start .args .size) _ (c .loop-test .taken) refl, start .pre .1)
 
 mul-width : tie.Need-mul-width Inv-loop μ-loop
 mul-width c = omega arith
 
 loop-holds : tie.Need-loop-holds Inv-loop μ-loop
-loop-holds c = let a = c .before .before .before .args in (omega arith, refl, none-filled (a .size) (λ j. openItem (a .k) (a .t) (a .size) (a .wits .now) (a .positions .now) (a .opened .now) j .openings) (a .opened .now))
+loop-holds c = let a = c .before .before .before .before .args in (omega arith, refl, none-filled (a .size) (λ j. openItem (a .k) (a .t) (a .size) (a .points .now) (a .wits .now) (a .positions .now) (a .opened .now) j .openings) (a .opened .now))
 
 mul-start : tie.Need-mul-start Inv-loop μ-loop
 mul-start c = omega (arith, from-room c)
@@ -77,18 +77,18 @@ loop-less c = omega (arith, c .before .before .before .before .before .before .l
 
 loop-again : tie.Need-loop-again Inv-loop μ-loop
 loop-again c =
-    let start = c .before .before .before .before .before .before .before .before .before .before .before in
+    let start = c .before .before .before .before .before .before .before .before .before .before .before .before in
     let a = start .args in
     let l = c .before .before .before .before .before .before .before .loop in
     let call = c .before .before .before .open-part in
     let same =
-    ap₂ (λ (w o : List ℕ). «open» (a .k) (a .t) w (a .positions .now) o) (part-cut (a .wits .now) (l .i * (4 * a .k)) (4 * a .k))
-    (still (a .size) (λ j. openItem (a .k) (a .t) (a .size) (a .wits .now) (a .positions .now) (a .opened .now) j .openings) (a .opened .now) (l .i) (l .opened) (l .inv .2)) in (
+    ap₂ (λ (w o : List ℕ). «open» (a .k) (a .t) (a .points .now) w (a .positions .now) o) (part-cut (a .wits .now) (l .i * (4 * a .k)) (4 * a .k))
+    (still (a .size) (λ j. openItem (a .k) (a .t) (a .size) (a .points .now) (a .wits .now) (a .positions .now) (a .opened .now) j .openings) (a .opened .now) (l .i) (l .opened) (l .inv .2)) in (
       omega (arith, c .before .before .before .before .before .before .loop-test .taken),
-      refusal-next (l .i) (λ j. openItem (a .k) (a .t) (a .size) (a .wits .now) (a .positions .now) (a .opened .now) j .answer) (l .answer) (call .result) (c .first .result) (l .inv .1)
+      refusal-next (l .i) (λ j. openItem (a .k) (a .t) (a .size) (a .points .now) (a .wits .now) (a .positions .now) (a .opened .now) j .answer) (l .answer) (call .result) (c .first .result) (l .inv .1)
           (call .ensures .0 ∙ ap (λ (o : Opened). o .answer) same) (c .first .ensures),
-      one-filled (a .size) (λ j. openItem (a .k) (a .t) (a .size) (a .wits .now) (a .positions .now) (a .opened .now) j .openings) (a .opened .now) (l .i) (l .opened) (call .last .1 .1 .1 .1 .0) _ (l .inv .2)
-          (to-room (c .before .before .before .before .before .before)) (call .kept .1 .1 .1 .1 .0) (call .ensures .1) (ap (λ (o : Opened). o .openings) same),
+      one-filled (a .size) (λ j. openItem (a .k) (a .t) (a .size) (a .points .now) (a .wits .now) (a .positions .now) (a .opened .now) j .openings) (a .opened .now) (l .i) (l .opened) (call .last .1 .1 .1 .1 .1 .0) _ (l .inv .2)
+          (to-room (c .before .before .before .before .before .before)) (call .kept .1 .1 .1 .1 .1 .0) (call .ensures .1) (ap (λ (o : Opened). o .openings) same),
     )
 
 same-length : tie.Need-same-length Inv-loop μ-loop
@@ -96,12 +96,12 @@ same-length c = c .before .loop .inv .2 .same
 
 returns : tie.Need-returns Inv-loop μ-loop
 returns c =
-    let start = c .before .before .before .before .before in
+    let start = c .before .before .before .before .before .before in
     let a = start .args in
     let l = c .before .loop in
     let done : l .i ≡ a .l = omega (arith, c .loop-test .left) in (
-      l .inv .1 ∙ ap (λ (n : ℕ). firstRefusal (build n (λ j. openItem (a .k) (a .t) (a .size) (a .wits .now) (a .positions .now) (a .opened .now) j .answer))) done,
-      subst (λ (n : ℕ). Filled (a .size) (λ j. openItem (a .k) (a .t) (a .size) (a .wits .now) (a .positions .now) (a .opened .now) j .openings) (a .opened .now) n (l .opened)) done (l .inv .2),
+      l .inv .1 ∙ ap (λ (n : ℕ). firstRefusal (build n (λ j. openItem (a .k) (a .t) (a .size) (a .points .now) (a .wits .now) (a .positions .now) (a .opened .now) j .answer))) done,
+      subst (λ (n : ℕ). Filled (a .size) (λ j. openItem (a .k) (a .t) (a .size) (a .points .now) (a .wits .now) (a .positions .now) (a .opened .now) j .openings) (a .opened .now) n (l .opened)) done (l .inv .2),
     )
 
 pub open-list-spec : {M : Type 1} → statement M

@@ -29,13 +29,13 @@ same-length c = search needs
 
 returns : tie.Need-returns
 returns c =
-    let start = c .before .before .before .before .before .before .before in
+    let start = c .before .before .before .before .before .before .before .before in
     let a = start .args in
     let call = c .before .before .lomvuze-open in
     let borrowed = part-cut (a .opened .now) (a .at) (a .size) in (
-      call .ensures .0 ∙ ap (λ (o : List ℕ). «open» (a .k) (a .t) (a .w .now) (a .positions .now) o .answer) borrowed,
-      borrowed-back (a .opened .now) _ (call .last .1 .1 .1 .1 .0) (a .at) (a .size)
-          (call .ensures .1 ∙ ap (λ (o : List ℕ). «open» (a .k) (a .t) (a .w .now) (a .positions .now) o .openings) borrowed),
+      call .ensures .0 ∙ ap (λ (o : List ℕ). «open» (a .k) (a .t) (a .points .now) (a .w .now) (a .positions .now) o .answer) borrowed,
+      borrowed-back (a .opened .now) _ (call .last .1 .1 .1 .1 .1 .0) (a .at) (a .size)
+          (call .ensures .1 ∙ ap (λ (o : List ℕ). «open» (a .k) (a .t) (a .points .now) (a .w .now) (a .positions .now) o .openings) borrowed),
     )
 
 pub open-part-spec : {M : Type 1} → statement M

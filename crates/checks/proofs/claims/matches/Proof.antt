@@ -17,7 +17,7 @@ same-requires c κs = search needs
 
 returns : tie.Need-returns
 returns c =
-    let a = c .before .before .before .before .before .args in
+    let a = c .before .before .before .before .before .before .args in
     bytes-test _ _ _ (c .same .ensures) ∙ ap (sameBytes (a .root .now)) (c .before .before .root .ensures)
 
 pub matches-spec : {M : Type 1} → statement M

@@ -12,15 +12,33 @@ below-requires c κs = search needs
 returns : tie.Need-returns
 returns c = fails 3 _ (c .before .below .ensures) (c .if1 .taken)
 
-circuit-in-order-requires : tie.Need-circuit-in-order-requires
-circuit-in-order-requires c κs = let s = c .before .before .before .before .before .before .before in (s .pre .0, s .pre .1, count-few (s .args .k) (s .pre .2))
+differ-requires : tie.Need-differ-requires
+differ-requires c κs = search needs
 
 returns-2 : tie.Need-returns-2
-returns-2 c = passes 3 (c .before .before .before .below .ensures) (c .before .before .if1 .left) (fails 4 _ (c .before .circuit-in-order .ensures) (c .if2 .taken))
+returns-2 c = passes 3 (c .before .before .before .below .ensures) (c .before .before .if1 .left) (fails 12 _ (c .before .differ .ensures) (c .if2 .taken))
+
+circuit-in-order-requires : tie.Need-circuit-in-order-requires
+circuit-in-order-requires c κs = let s = c .before .before .before .before .before .before .before .before .before .before in (s .pre .0, s .pre .1, count-few (s .args .k) (s .pre .2))
 
 returns-3 : tie.Need-returns-3
-returns-3 c = passes 3 (c .before .before .before .below .ensures) (c .before .before .if1 .left) (passes 4 (c .before .circuit-in-order .ensures) (c .if2 .left) refl)
+returns-3 c =
+    passes 3 (c .before .before .before .before .before .below .ensures) (c .before .before .before .before .if1 .left)
+    (passes 12 (c .before .before .before .differ .ensures) (c .before .before .if2 .left) (fails 4 _ (c .before .circuit-in-order .ensures) (c .if3 .taken)))
+
+returns-4 : tie.Need-returns-4
+returns-4 c =
+    passes 3 (c .before .before .before .before .before .below .ensures) (c .before .before .before .before .if1 .left)
+    (passes 12 (c .before .before .before .differ .ensures) (c .before .before .if2 .left) (passes 4 (c .before .circuit-in-order .ensures) (c .if3 .left) refl))
 
 pub verdict-spec : {M : Type 1} → statement M
 verdict-spec =
-    tie.close (tie.spec below-requires returns circuit-in-order-requires returns-2 returns-3)
+    tie.close
+    (tie.spec
+    below-requires
+    returns
+    differ-requires
+    returns-2
+    circuit-in-order-requires
+    returns-3
+    returns-4)

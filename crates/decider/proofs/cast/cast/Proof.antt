@@ -10,10 +10,10 @@ use Rattle.decider.proofs.cast.cast.Statement.{statement}
 use Rattle.decider.proofs.cast.cast.Tie as tie
 
 -- The call goes on: every check passes.
-passed : (c : tie.Else1) → (let a = c .before .before .before .before .before .before .before .before .before .before .args in CastPasses fp (a .m) (a .n) (a .k) (a .a .now) (a .b .now) (a .c .now) (a .r .now) (a .x .now) (a .w .now) (a .item .now))
+passed : (c : tie.Else1) → (let a = c .before .before .before .before .before .before .before .before .before .before .before .args in CastPasses fp (a .m) (a .n) (a .k) (a .points .now) (a .a .now) (a .b .now) (a .c .now) (a .r .now) (a .x .now) (a .w .now) (a .item .now))
 passed c =
-    let a = c .before .before .before .before .before .before .before .before .before .before .args in
-    cast-passes fp (a .m) (a .n) (a .k) (a .a .now) (a .b .now) (a .c .now) (a .r .now) (a .x .now) (a .w .now) (a .item .now) (sym (c .before .verdict .ensures) ∙ c .if1 .left)
+    let a = c .before .before .before .before .before .before .before .before .before .before .before .args in
+    cast-passes fp (a .m) (a .n) (a .k) (a .points .now) (a .a .now) (a .b .now) (a .c .now) (a .r .now) (a .x .now) (a .w .now) (a .item .now) (sym (c .before .verdict .ensures) ∙ c .if1 .left)
 
 verdict-requires : tie.Need-verdict-requires
 verdict-requires c κs = search needs
@@ -27,11 +27,11 @@ returns c = (c .before .verdict .ensures, refused _ _ (c .before .verdict .ensur
 
 write-requires : tie.Need-write-requires
 write-requires c κs =
-    let a = c .before .before .before .before .before .before .before .before .before .before .before .args in
+    let a = c .before .before .before .before .before .before .before .before .before .before .before .before .args in
     let t = passed (c .before) in
-    let h = cast-fits (a .m) (a .n) (a .k) (a .a .now) (a .b .now) (a .c .now) (a .r .now) (a .x .now) (a .w .now) (a .item .now) (t .fits) in
+    let h = cast-fits (a .m) (a .n) (a .k) (a .points .now) (a .a .now) (a .b .now) (a .c .now) (a .r .now) (a .x .now) (a .w .now) (a .item .now) (t .fits) in
     let s = cast-below (a .a .now) (a .b .now) (a .c .now) (a .r .now) (a .x .now) (a .w .now) (t .below) in
-    ((h .sizes .m-most, h .sizes .n-most, h .sizes .count, h .r-length, h .x-length, h .w-length, h .item-length), (s .r-below, s .x-below, s .w-below))
+    ((h .sizes .m-most, h .sizes .n-most, h .sizes .count, h .r-length, h .x-length, h .w-length, h .item-length, h .points-fit), (s .r-below, s .x-below, s .w-below))
 
 same-length-2 : tie.Need-same-length-2
 same-length-2 c = search needs

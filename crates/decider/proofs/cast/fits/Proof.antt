@@ -9,6 +9,9 @@ use Rattle.decider.proofs.cast.fits.Tie as tie
 sizes-requires : tie.Need-sizes-requires
 sizes-requires c κs = search needs
 
+fits-requires : tie.Need-fits-requires
+fits-requires c κs = search needs
+
 circuit-fits-requires : tie.Need-circuit-fits-requires
 circuit-fits-requires c κs = search needs
 
@@ -27,7 +30,7 @@ size-requires c κs = search needs
 returns : tie.Need-returns
 returns c =
     ap₂ _&&_
-    (ap₂ _&&_ (ap₂ _&&_ (ap₂ _&&_ (ap₂ _&&_ (c .before .before .sizes .ensures) (c .before .circuit-fits .ensures)) refl) refl) refl)
+    (ap₂ _&&_ (ap₂ _&&_ (ap₂ _&&_ (ap₂ _&&_ (ap₂ _&&_ (c .before .before .before .sizes .ensures) (c .before .before .fits2 .ensures)) (c .before .circuit-fits .ensures)) refl) refl) refl)
     (ap (eqb _) (c .size .ensures))
 
 pub fits-spec : {M : Type 1} → statement M
@@ -35,6 +38,7 @@ fits-spec =
     tie.close
     (tie.spec
     sizes-requires
+    fits-requires
     circuit-fits-requires
     mul-result
     mul-result-2

@@ -9,14 +9,14 @@ use Rattle.decider.proofs.cast.verdict.Statement.{statement}
 use Rattle.decider.proofs.cast.verdict.Tie as tie
 
 -- What checks 2 and 3 show.
-fits-here : (c : tie.Else1) → (let a = c .before .before .before .before .before .before .before .before .before .args in CastFits (a .m) (a .n) (a .k) (a .r .now) (a .x .now) (a .w .now) (a .item .now))
+fits-here : (c : tie.Else1) → (let a = c .before .before .before .before .before .before .before .before .before .before .args in CastFits (a .m) (a .n) (a .k) (a .points .now) (a .r .now) (a .x .now) (a .w .now) (a .item .now))
 fits-here c =
-    let a = c .before .before .before .before .before .before .before .before .before .args in
-    cast-fits (a .m) (a .n) (a .k) (a .a .now) (a .b .now) (a .c .now) (a .r .now) (a .x .now) (a .w .now) (a .item .now) (passed (c .before .fits2 .ensures) (c .if1 .left))
+    let a = c .before .before .before .before .before .before .before .before .before .before .args in
+    cast-fits (a .m) (a .n) (a .k) (a .points .now) (a .a .now) (a .b .now) (a .c .now) (a .r .now) (a .x .now) (a .w .now) (a .item .now) (passed (c .before .fits2 .ensures) (c .if1 .left))
 
-r-below : (c : tie.Else2) → (let a = c .before .before .before .before .before .before .before .before .before .before .before .args in elementsBelow (a .r .now) ≡ true)
+r-below : (c : tie.Else2) → (let a = c .before .before .before .before .before .before .before .before .before .before .before .before .args in elementsBelow (a .r .now) ≡ true)
 r-below c =
-    let a = c .before .before .before .before .before .before .before .before .before .before .before .args in
+    let a = c .before .before .before .before .before .before .before .before .before .before .before .before .args in
     cast-below (a .a .now) (a .b .now) (a .c .now) (a .r .now) (a .x .now) (a .w .now) (passed (c .before .below .ensures) (c .if2 .left)) .r-below
 
 fits-requires : tie.Need-fits-requires
@@ -34,8 +34,8 @@ returns-2 c =
     passes 2 (c2 .before .fits2 .ensures) (c2 .if1 .left) (
     fails 3 _ (c .before .below .ensures) (c .if2 .taken))
 
-circuit-in-order-requires : tie.Need-circuit-in-order-requires
-circuit-in-order-requires c κs = let h = fits-here (c .before .before) in (h .sizes .m-most, h .sizes .n-most, h .sizes .k-most)
+differ-requires : tie.Need-differ-requires
+differ-requires c κs = let h = fits-here (c .before .before) in (h .sizes .count, h .points-fit)
 
 returns-3 : tie.Need-returns-3
 returns-3 c =
@@ -43,33 +43,50 @@ returns-3 c =
     let c3 = c .before .before in
     passes 2 (c2 .before .fits2 .ensures) (c2 .if1 .left) (
     passes 3 (c3 .before .below .ensures) (c3 .if2 .left) (
-    fails 4 _ (c .before .circuit-in-order .ensures) (c .if3 .taken)))
+    fails 12 _ (c .before .differ .ensures) (c .if3 .taken)))
 
-holds-requires : tie.Need-holds-requires
-holds-requires c κs =
-    let h = fits-here (c .before .before .before .before) in
-    ((h .sizes .m-most, h .sizes .n-most, h .sizes .k-most, h .r-length, h .x-length, h .w-length), (r-below (c .before .before), passed (c .before .circuit-in-order .ensures) (c .if3 .left)))
+circuit-in-order-requires : tie.Need-circuit-in-order-requires
+circuit-in-order-requires c κs = let h = fits-here (c .before .before .before .before) in (h .sizes .m-most, h .sizes .n-most, h .sizes .k-most)
 
 returns-4 : tie.Need-returns-4
 returns-4 c =
     let c2 = c .before .before .before .before .before .before in
     let c3 = c .before .before .before .before in
-    let c4 = c .before .before in
+    let c12 = c .before .before in
     passes 2 (c2 .before .fits2 .ensures) (c2 .if1 .left) (
     passes 3 (c3 .before .below .ensures) (c3 .if2 .left) (
-    passes 4 (c4 .before .circuit-in-order .ensures) (c4 .if3 .left) (
-    fails 11 _ (c .before .holds .ensures) (c .if4 .taken))))
+    passes 12 (c12 .before .differ .ensures) (c12 .if3 .left) (
+    fails 4 _ (c .before .circuit-in-order .ensures) (c .if4 .taken))))
+
+holds-requires : tie.Need-holds-requires
+holds-requires c κs =
+    let h = fits-here (c .before .before .before .before .before .before) in
+    ((h .sizes .m-most, h .sizes .n-most, h .sizes .k-most, h .r-length, h .x-length, h .w-length), (r-below (c .before .before .before .before), passed (c .before .circuit-in-order .ensures) (c .if4 .left)))
 
 returns-5 : tie.Need-returns-5
 returns-5 c =
-    let c2 = c .before .before .before .before .before .before in
-    let c3 = c .before .before .before .before in
+    let c2 = c .before .before .before .before .before .before .before .before in
+    let c3 = c .before .before .before .before .before .before in
+    let c12 = c .before .before .before .before in
     let c4 = c .before .before in
     passes 2 (c2 .before .fits2 .ensures) (c2 .if1 .left) (
     passes 3 (c3 .before .below .ensures) (c3 .if2 .left) (
-    passes 4 (c4 .before .circuit-in-order .ensures) (c4 .if3 .left) (
-    passes 11 (c .before .holds .ensures) (c .if4 .left) (
-    refl))))
+    passes 12 (c12 .before .differ .ensures) (c12 .if3 .left) (
+    passes 4 (c4 .before .circuit-in-order .ensures) (c4 .if4 .left) (
+    fails 11 _ (c .before .holds .ensures) (c .if5 .taken)))))
+
+returns-6 : tie.Need-returns-6
+returns-6 c =
+    let c2 = c .before .before .before .before .before .before .before .before in
+    let c3 = c .before .before .before .before .before .before in
+    let c12 = c .before .before .before .before in
+    let c4 = c .before .before in
+    passes 2 (c2 .before .fits2 .ensures) (c2 .if1 .left) (
+    passes 3 (c3 .before .below .ensures) (c3 .if2 .left) (
+    passes 12 (c12 .before .differ .ensures) (c12 .if3 .left) (
+    passes 4 (c4 .before .circuit-in-order .ensures) (c4 .if4 .left) (
+    passes 11 (c .before .holds .ensures) (c .if5 .left) (
+    refl)))))
 
 pub verdict-spec : {M : Type 1} → statement M
 verdict-spec =
@@ -79,8 +96,10 @@ verdict-spec =
     returns
     below-requires
     returns-2
-    circuit-in-order-requires
+    differ-requires
     returns-3
-    holds-requires
+    circuit-in-order-requires
     returns-4
-    returns-5)
+    holds-requires
+    returns-5
+    returns-6)

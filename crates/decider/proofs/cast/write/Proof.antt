@@ -26,23 +26,23 @@ slice-aggregate-collect c = front-length _ _ (omega arith)
 
 collect-requires : tie.Need-collect-requires
 collect-requires c κs =
-    let s = c .before .before .before .before .before .before in
+    let s = c .before .before .before .before .before .before .before in
     (s .pre .0 .0, s .pre .0 .3, omega (arith, front-length (1 + s .args .m + s .args .n) (replicate 71 0) (omega arith)))
 
 array-share-prefix-values : tie.Need-array-share-prefix-values
 array-share-prefix-values c =
-    let s = c .before .before .before .before .before .before .before .before in
-    front-fits (1 + s .args .m + s .args .n) (c .before .collect .last .1 .1 .1 .0) (replicate 71 0) (cast-count (s .args .m) (s .args .n) (s .args .k) (s .args .r .now) (s .args .x .now) (s .args .w .now) (s .pre .0 .3) (s .pre .0 .4) (s .pre .1 .0) (s .pre .1 .1) (c .before .collect .ensures))
+    let s = c .before .before .before .before .before .before .before .before .before in
+    front-fits (1 + s .args .m + s .args .n) (c .before .collect .last .1 .1 .1 .0) (replicate 71 0) (cast-count (s .args .m) (s .args .n) (s .args .k) (s .args .points .now) (s .args .r .now) (s .args .x .now) (s .args .w .now) (s .pre .0 .3) (s .pre .0 .4) (s .pre .1 .0) (s .pre .1 .1) (c .before .collect .ensures))
 
 slice-aggregate-write : tie.Need-slice-aggregate-write
 slice-aggregate-write c =
-    let s = c .before .before .before .before .before .before .before .before .before in
-    front-count (1 + s .args .m + s .args .n) (c .before .before .collect .last .1 .1 .1 .0) (replicate 71 0) (cast-count (s .args .m) (s .args .n) (s .args .k) (s .args .r .now) (s .args .x .now) (s .args .w .now) (s .pre .0 .3) (s .pre .0 .4) (s .pre .1 .0) (s .pre .1 .1) (c .before .before .collect .ensures))
+    let s = c .before .before .before .before .before .before .before .before .before .before in
+    front-count (1 + s .args .m + s .args .n) (c .before .before .collect .last .1 .1 .1 .0) (replicate 71 0) (cast-count (s .args .m) (s .args .n) (s .args .k) (s .args .points .now) (s .args .r .now) (s .args .x .now) (s .args .w .now) (s .pre .0 .3) (s .pre .0 .4) (s .pre .1 .0) (s .pre .1 .1) (c .before .before .collect .ensures))
 
 write-requires : tie.Need-write-requires
 write-requires c κs =
-    let s = c .before .before .before .before .before .before .before .before .before .before in
-    let count = front-count (1 + s .args .m + s .args .n) (c .before .before .before .collect .last .1 .1 .1 .0) (replicate 71 0) (cast-count (s .args .m) (s .args .n) (s .args .k) (s .args .r .now) (s .args .x .now) (s .args .w .now) (s .pre .0 .3) (s .pre .0 .4) (s .pre .1 .0) (s .pre .1 .1) (c .before .before .before .collect .ensures)) in
+    let s = c .before .before .before .before .before .before .before .before .before .before .before in
+    let count = front-count (1 + s .args .m + s .args .n) (c .before .before .before .collect .last .1 .1 .1 .0) (replicate 71 0) (cast-count (s .args .m) (s .args .n) (s .args .k) (s .args .points .now) (s .args .r .now) (s .args .x .now) (s .args .w .now) (s .pre .0 .3) (s .pre .0 .4) (s .pre .1 .0) (s .pre .1 .1) (c .before .before .before .collect .ensures)) in
     (omega (arith, count), omega (arith, count))
 
 same-length : tie.Need-same-length
@@ -50,10 +50,10 @@ same-length c = search needs
 
 returns : tie.Need-returns
 returns c =
-    let s = c .before .before .before .before .before .before .before .before .before .before .before .before .before in
+    let s = c .before .before .before .before .before .before .before .before .before .before .before .before .before .before in
     c .before .before .write .ensures
-    ∙ cast-bytes (s .args .m) (s .args .n) (s .args .k) (s .args .r .now) (s .args .x .now) (s .args .w .now) (s .pre .0 .3) (s .pre .0 .4) (s .pre .1 .0) (s .pre .1 .1)
-    (front-taken (1 + s .args .m + s .args .n) (c .before .before .before .before .before .before .collect .last .1 .1 .1 .0) (replicate 71 0) (cast-count (s .args .m) (s .args .n) (s .args .k) (s .args .r .now) (s .args .x .now) (s .args .w .now) (s .pre .0 .3) (s .pre .0 .4) (s .pre .1 .0) (s .pre .1 .1) (c .before .before .before .before .before .before .collect .ensures)) ∙ c .before .before .before .before .before .before .collect .ensures)
+    ∙ cast-bytes (s .args .m) (s .args .n) (s .args .k) (s .args .points .now) (s .args .r .now) (s .args .x .now) (s .args .w .now) (s .pre .0 .3) (s .pre .0 .4) (s .pre .1 .0) (s .pre .1 .1)
+    (front-taken (1 + s .args .m + s .args .n) (c .before .before .before .before .before .before .collect .last .1 .1 .1 .0) (replicate 71 0) (cast-count (s .args .m) (s .args .n) (s .args .k) (s .args .points .now) (s .args .r .now) (s .args .x .now) (s .args .w .now) (s .pre .0 .3) (s .pre .0 .4) (s .pre .1 .0) (s .pre .1 .1) (c .before .before .before .before .before .before .collect .ensures)) ∙ c .before .before .before .before .before .before .collect .ensures)
     (c .before .before .before .before .before .before .before .before .root .ensures)
 
 pub write-spec : {M : Type 1} → statement M

@@ -18,28 +18,28 @@ returns c = fails 2 _ (c .before .fits2 .ensures) (c .if1 .taken)
 
 verdict-requires : tie.Need-verdict-requires
 verdict-requires c κs =
-    let a = c .before .before .before .before .before .before .before .args in
-    one-listed (a .m) (a .n) (a .k) (a .a .now) (a .b .now) (a .c .now) (a .item .now) (a .wit .now) (passed (c .before .fits2 .ensures) (c .if1 .left))
+    let a = c .before .before .before .before .before .before .before .before .args in
+    one-listed (a .m) (a .n) (a .k) (a .points .now) (a .a .now) (a .b .now) (a .c .now) (a .item .now) (a .wit .now) (passed (c .before .fits2 .ensures) (c .if1 .left))
 
 returns-2 : tie.Need-returns-2
 unfolding decideOf
 returns-2 c =
-    let a = c .before .before .before .before .before .before .before .before .before .args in
+    let a = c .before .before .before .before .before .before .before .before .before .before .args in
     let c2 = c .before .before in
-    passes 2 (c2 .before .fits2 .ensures) (c2 .if1 .left) (list-refuses (a .m) (a .n) (a .k) 1 (a .a .now) (a .b .now) (a .c .now) (a .item .now) (a .wit .now) (claimChecks (a .m) (a .n) (a .k) 1 (a .a .now) (a .b .now) (a .c .now) (a .item .now) (a .wit .now)) (c .before .verdict .ensures) (c .if2 .taken))
+    passes 2 (c2 .before .fits2 .ensures) (c2 .if1 .left) (list-refuses (a .m) (a .n) (a .k) 1 (a .points .now) (a .a .now) (a .b .now) (a .c .now) (a .item .now) (a .wit .now) (claimChecks (a .m) (a .n) (a .k) 1 (a .points .now) (a .a .now) (a .b .now) (a .c .now) (a .item .now) (a .wit .now)) (c .before .verdict .ensures) (c .if2 .taken))
 
 claims-requires : tie.Need-claims-requires
 claims-requires c κs =
-    let a = c .before .before .before .before .before .before .before .before .before .args in
+    let a = c .before .before .before .before .before .before .before .before .before .before .args in
     let c2 = c .before .before in
-    (one-listed (a .m) (a .n) (a .k) (a .a .now) (a .b .now) (a .c .now) (a .item .now) (a .wit .now) (passed (c2 .before .fits2 .ensures) (c2 .if1 .left)), sym (c .before .verdict .ensures) ∙ c .if2 .left)
+    (one-listed (a .m) (a .n) (a .k) (a .points .now) (a .a .now) (a .b .now) (a .c .now) (a .item .now) (a .wit .now) (passed (c2 .before .fits2 .ensures) (c2 .if1 .left)), sym (c .before .verdict .ensures) ∙ c .if2 .left)
 
 returns-3 : tie.Need-returns-3
 unfolding decideOf
 returns-3 c =
-    let a = c .before .before .before .before .before .before .before .before .before .before .args in
+    let a = c .before .before .before .before .before .before .before .before .before .before .before .args in
     let c2 = c .before .before .before in
-    passes 2 (c2 .before .fits2 .ensures) (c2 .if1 .left) (list-accepts (a .m) (a .n) (a .k) 1 (a .a .now) (a .b .now) (a .c .now) (a .item .now) (a .wit .now) (claimChecks (a .m) (a .n) (a .k) 1 (a .a .now) (a .b .now) (a .c .now) (a .item .now) (a .wit .now)) (c .before .before .verdict .ensures) (c .before .if2 .left) (c .claims .ensures))
+    passes 2 (c2 .before .fits2 .ensures) (c2 .if1 .left) (list-accepts (a .m) (a .n) (a .k) 1 (a .points .now) (a .a .now) (a .b .now) (a .c .now) (a .item .now) (a .wit .now) (claimChecks (a .m) (a .n) (a .k) 1 (a .points .now) (a .a .now) (a .b .now) (a .c .now) (a .item .now) (a .wit .now)) (c .before .before .verdict .ensures) (c .before .if2 .left) (c .claims .ensures))
 
 pub decide-spec : {M : Type 1} → statement M
 decide-spec =

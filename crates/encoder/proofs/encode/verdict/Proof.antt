@@ -1,11 +1,16 @@
 -- `encode::verdict` meets its contract, check by check.
-use mathlib.Core.Path.{refl, sym, _∙_}
-use borrow.Author.Tests.{not-false}
-use Rattle.checks.proofs.Calls.{fails, passes}
-use Rattle.encoder.proofs.Accepted.{encode-fits}
+use mathlib.Core.Path.{refl}
+use Rattle.checks.proofs.Calls.{fails, passes, passed}
+use Rattle.encoder.proofs.Accepted.{EncodeFits, encode-fits}
 use borrow.Author.Needs.{needs}
 use Rattle.encoder.proofs.encode.verdict.Statement.{statement}
 use Rattle.encoder.proofs.encode.verdict.Tie as tie
+
+-- Check 2 passed.
+fitting : (c : tie.Else1) → (let a = c .before .before .before .before .before .before .args in EncodeFits (a .k) (a .points .now) (a .w .now) (a .code .now) (a .root .now))
+fitting c =
+    let a = c .before .before .before .before .before .before .args in
+    encode-fits (a .k) (a .points .now) (a .w .now) (a .code .now) (a .root .now) (passed (c .before .fits2 .ensures) (c .if1 .left))
 
 fits-requires : tie.Need-fits-requires
 fits-requires c κs = search needs
@@ -14,23 +19,32 @@ returns : tie.Need-returns
 returns c = let s = c .before .fits2 in fails 2 _ (s .ensures) (c .if1 .taken)
 
 elements-below-requires : tie.Need-elements-below-requires
-elements-below-requires c κs =
-    let s = c .before .fits2 in
-    let a = c .before .before .before .before .before .args in
-    encode-fits (a .k) (a .w .now) (a .code .now) (a .root .now) (sym (s .ensures) ∙ not-false (s .result) (c .if1 .left)) .w-length
+elements-below-requires c κs = fitting c .w-length
 
 returns-2 : tie.Need-returns-2
-returns-2 c =
-    let s = c .before .before .before .fits2 in
-    let t = c .before .elements-below in
-    passes 2 (s .ensures) (c .before .before .if1 .left) (fails 3 _ (t .ensures) (c .if2 .taken))
+returns-2 c = passes 2 (c .before .before .before .fits2 .ensures) (c .before .before .if1 .left) (fails 3 _ (c .before .elements-below .ensures) (c .if2 .taken))
+
+differ-requires : tie.Need-differ-requires
+differ-requires c κs = let h = fitting (c .before .before) in (h .count, h .points-fit)
 
 returns-3 : tie.Need-returns-3
 returns-3 c =
-    let s = c .before .before .before .fits2 in
-    let t = c .before .elements-below in
-    passes 2 (s .ensures) (c .before .before .if1 .left) (passes 3 (t .ensures) (c .if2 .left) refl)
+    passes 2 (c .before .before .before .before .before .fits2 .ensures) (c .before .before .before .before .if1 .left)
+    (passes 3 (c .before .before .before .elements-below .ensures) (c .before .before .if2 .left) (fails 12 _ (c .before .differ .ensures) (c .if3 .taken)))
+
+returns-4 : tie.Need-returns-4
+returns-4 c =
+    passes 2 (c .before .before .before .before .before .fits2 .ensures) (c .before .before .before .before .if1 .left)
+    (passes 3 (c .before .before .before .elements-below .ensures) (c .before .before .if2 .left) (passes 12 (c .before .differ .ensures) (c .if3 .left) refl))
 
 pub verdict-spec : {M : Type 1} → statement M
 verdict-spec =
-    tie.close (tie.spec fits-requires returns elements-below-requires returns-2 returns-3)
+    tie.close
+    (tie.spec
+    fits-requires
+    returns
+    elements-below-requires
+    returns-2
+    differ-requires
+    returns-3
+    returns-4)

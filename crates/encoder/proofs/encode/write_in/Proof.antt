@@ -22,7 +22,7 @@ depth-of-requires c κs = search needs
 
 root-requires : tie.Need-root-requires
 root-requires c κs =
-    let s = c .before .before .before .before .before .before .before .before .before .before .before .before .before .before .before in
+    let s = c .before .before .before .before .before .before .before .before .before .before .before .before .before .before .before .before in
     codeword-leaves (s .args .k) (s .pre .0) (omega arith) (c .depth-of .ensures)
 
 slice-aggregate-copy : tie.Need-slice-aggregate-copy
@@ -42,12 +42,12 @@ same-length-3 c = search needs
 
 returns : tie.Need-returns
 returns c =
-    let s = c .before .before .before .before .before .before .before .before .before .before .before .before .before .before .before .before .before .before .before .before .before in
+    let s = c .before .before .before .before .before .before .before .before .before .before .before .before .before .before .before .before .before .before .before .before .before .before in
     let e = c .before .before .before .before .before .before .before .before .before .before .before .before .before .before .before .codeword .ensures in
     let d = c .before .before .before .before .before .root in
     let whole : length (s .args .root .now) ≤ length (d .result) = omega arith in (
       c .before .before .before .before .before .before .before .before .before .before .store .ensures ∙ ap bytes e,
-      c .before .before .copy .ensures .1 ∙ copied-over (d .result) (s .args .root .now) whole ∙ d .ensures ∙ root-read (s .args .k) (elements (s .args .k) (s .args .w .now)) e (c .before .before .before .before .before .before .depth-of .ensures),
+      c .before .before .copy .ensures .1 ∙ copied-over (d .result) (s .args .root .now) whole ∙ d .ensures ∙ root-read (s .args .k) (s .args .points .now) (elements (s .args .k) (s .args .w .now)) e (c .before .before .before .before .before .before .depth-of .ensures),
     )
 
 pub write-in-spec : {M : Type 1} → statement M

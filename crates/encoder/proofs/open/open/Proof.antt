@@ -10,10 +10,10 @@ use Rattle.encoder.proofs.open.open.Statement.{statement}
 use Rattle.encoder.proofs.open.open.Tie as tie
 
 -- The call goes on: every check passed.
-passed : (c : tie.Else1) → (let a = c .before .before .before .before .before .before .args in OpenPasses fp (a .k) (a .t) (a .w .now) (a .positions .now) (a .openings .now))
+passed : (c : tie.Else1) → (let a = c .before .before .before .before .before .before .before .args in OpenPasses fp (a .k) (a .t) (a .points .now) (a .w .now) (a .positions .now) (a .openings .now))
 passed c =
-    let a = c .before .before .before .before .before .before .args in
-    open-passes fp (a .k) (a .t) (a .w .now) (a .positions .now) (a .openings .now) (sym (c .before .verdict .ensures) ∙ c .if1 .left)
+    let a = c .before .before .before .before .before .before .before .args in
+    open-passes fp (a .k) (a .t) (a .points .now) (a .w .now) (a .positions .now) (a .openings .now) (sym (c .before .verdict .ensures) ∙ c .if1 .left)
 
 verdict-requires : tie.Need-verdict-requires
 verdict-requires c κs = search needs
@@ -25,14 +25,14 @@ returns : tie.Need-returns
 unfolding openOf
 returns c =
     let v = c .before .verdict in
-    (v .ensures, refused _ (c .before .before .before .before .before .before .args .openings .now) (v .ensures) (c .if1 .taken))
+    (v .ensures, refused _ (c .before .before .before .before .before .before .before .args .openings .now) (v .ensures) (c .if1 .taken))
 
 write-requires : tie.Need-write-requires
 write-requires c κs =
-    let a = c .before .before .before .before .before .before .before .args in
+    let a = c .before .before .before .before .before .before .before .before .args in
     let t = passed (c .before) in
-    let h = open-fits (a .k) (a .t) (a .w .now) (a .positions .now) (a .openings .now) (t .fits) in
-    (h .count, h .w-length, t .below, h .positions-length, t .inside, h .openings-length)
+    let h = open-fits (a .k) (a .t) (a .points .now) (a .w .now) (a .positions .now) (a .openings .now) (t .fits) in
+    (h .count, h .w-length, t .below, h .positions-length, t .inside, h .openings-length, h .points-fit)
 
 same-length-2 : tie.Need-same-length-2
 same-length-2 c = search needs
@@ -42,7 +42,7 @@ unfolding openOf
 returns-2 c =
     let on = c .before .before .before .before in
     let v = on .before .verdict in
-    (sym (on .if1 .left) ∙ v .ensures, accepted (c .before .before .before .before .before .before .before .before .before .before .args .openings .now) (v .ensures) (on .if1 .left) (c .before .before .write .ensures))
+    (sym (on .if1 .left) ∙ v .ensures, accepted (c .before .before .before .before .before .before .before .before .before .before .before .args .openings .now) (v .ensures) (on .if1 .left) (c .before .before .write .ensures))
 
 pub open-spec : {M : Type 1} → statement M
 open-spec =

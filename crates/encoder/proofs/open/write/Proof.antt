@@ -11,15 +11,15 @@ mul-values : tie.Need-mul-values
 mul-values c = search needs
 
 array-borrow-prefix-values : tie.Need-array-borrow-prefix-values
-array-borrow-prefix-values c = let s = c .before .before .before in omega (arith, count-few (s .args .k) (s .pre .0))
+array-borrow-prefix-values c = let s = c .before .before .before .before in omega (arith, count-few (s .args .k) (s .pre .0))
 
 slice-aggregate-write-in : tie.Need-slice-aggregate-write-in
-slice-aggregate-write-in c = let s = c .before .before .before .before in front-length _ _ (omega (arith, count-few (s .args .k) (s .pre .0)))
+slice-aggregate-write-in c = let s = c .before .before .before .before .before in front-length _ _ (omega (arith, count-few (s .args .k) (s .pre .0)))
 
 write-in-requires : tie.Need-write-in-requires
 write-in-requires c κs =
-    let s = c .before .before .before .before .before in
-    (s .pre .0, s .pre .1, s .pre .2, s .pre .3, s .pre .4, sym (front-length _ _ (omega (arith, count-few (s .args .k) (s .pre .0)))), s .pre .5)
+    let s = c .before .before .before .before .before .before in
+    (s .pre .0, s .pre .1, s .pre .2, s .pre .3, s .pre .4, sym (front-length _ _ (omega (arith, count-few (s .args .k) (s .pre .0)))), s .pre .5, s .pre .6)
 
 same-length : tie.Need-same-length
 same-length c = search needs

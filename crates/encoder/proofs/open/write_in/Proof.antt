@@ -16,7 +16,7 @@ depth-of-requires c κs = search needs
 
 write-openings-requires : tie.Need-write-openings-requires
 write-openings-requires c κs =
-    let s = c .before .before .before .before .before .before .before .before .before .before .before in
+    let s = c .before .before .before .before .before .before .before .before .before .before .before .before in
     let a = s .args in
     let e = c .before .depth-of .ensures in (
       codeword-leaves (a .k) (s .pre .0) (omega arith) e,
@@ -33,10 +33,10 @@ same-length-2 c = search needs
 
 returns : tie.Need-returns
 returns c =
-    let s = c .before .before .before .before .before .before .before .before .before .before .before .before .before .before in
+    let s = c .before .before .before .before .before .before .before .before .before .before .before .before .before .before .before in
     let a = s .args in
     c .before .before .write-openings .ensures
-    ∙ openings-read (a .k) (a .t) (a .positions .now) (s .pre .3) (s .pre .4) (c .before .before .before .before .depth-of .ensures) (elements (a .k) (a .w .now)) (c .before .before .before .before .before .before .before .before .codeword .ensures)
+    ∙ openings-read (a .k) (a .t) (a .positions .now) (s .pre .3) (s .pre .4) (c .before .before .before .before .depth-of .ensures) (a .points .now) (s .pre .7) (elements (a .k) (a .w .now)) (c .before .before .before .before .before .before .before .before .codeword .ensures)
 
 pub write-in-spec : {M : Type 1} → statement M
 write-in-spec =

@@ -13,8 +13,8 @@ returns c challenge = and-fails _ (failed (c .before .fits2 .ensures) (c .if1 .t
 
 outputs-fit-requires : tie.Need-outputs-fit-requires
 outputs-fit-requires c κs =
-    let a = c .before .before .before .before .before .before .before .before .before .before .args in
-    let h = listed (a .m) (a .n) (a .k) (a .l) (a .a .now) (a .b .now) (a .c .now) (a .items .now) (a .wits .now) (passed (c .before .fits2 .ensures) (c .if1 .left)) in
+    let a = c .before .before .before .before .before .before .before .before .before .before .before .args in
+    let h = listed (a .m) (a .n) (a .k) (a .l) (a .points .now) (a .a .now) (a .b .now) (a .c .now) (a .items .now) (a .wits .now) (passed (c .before .fits2 .ensures) (c .if1 .left)) in
     (h .sizes .m-most, h .sizes .n-most, h .sizes .k-most, h .l-least, h .l-most)
 
 returns-2 : tie.Need-returns-2

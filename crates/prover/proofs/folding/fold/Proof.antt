@@ -22,14 +22,14 @@ same-length-3 c = search needs
 returns : tie.Need-returns
 unfolding foldOf
 returns c =
-    let a = c .before .before .before .before .before .before .before .before .before .before .before .before .before .args in
+    let a = c .before .before .before .before .before .before .before .before .before .before .before .before .before .before .args in
     let e = c .before .verdict .ensures in
     (e, (refused _ (a .quotient .now) e (c .if1 .taken), (refused _ (a .item .now) e (c .if1 .taken), refused _ (a .wit .now) e (c .if1 .taken))))
 
 write-requires : tie.Need-write-requires
 write-requires c κs =
-    let a = c .before .before .before .before .before .before .before .before .before .before .before .before .before .before .before .before .args in
-    fold-accepted (a .m) (a .n) (a .k) (a .l) (a .challenge) (a .a .now) (a .b .now) (a .c .now) (a .items .now) (a .wits .now) (a .quotient .now) (a .item .now) (a .wit .now) (sym (c .before .before .before .before .verdict .ensures) ∙ c .before .before .before .if1 .left)
+    let a = c .before .before .before .before .before .before .before .before .before .before .before .before .before .before .before .before .before .args in
+    fold-accepted (a .m) (a .n) (a .k) (a .l) (a .challenge) (a .points .now) (a .a .now) (a .b .now) (a .c .now) (a .items .now) (a .wits .now) (a .quotient .now) (a .item .now) (a .wit .now) (sym (c .before .before .before .before .verdict .ensures) ∙ c .before .before .before .if1 .left)
 
 same-length-4 : tie.Need-same-length-4
 same-length-4 c = search needs
@@ -43,7 +43,7 @@ same-length-6 c = search needs
 returns-2 : tie.Need-returns-2
 unfolding foldOf
 returns-2 c =
-    let a = c .before .before .before .before .before .before .before .before .before .before .before .before .before .before .before .before .before .before .before .before .before .before .before .args in
+    let a = c .before .before .before .before .before .before .before .before .before .before .before .before .before .before .before .before .before .before .before .before .before .before .before .before .args in
     let e = c .before .before .before .before .before .before .before .before .before .before .before .verdict .ensures in
     let z = c .before .before .before .before .before .before .before .before .before .before .if1 .left in
     let w = c .before .before .before .before .before .before .write .ensures in

@@ -18,11 +18,11 @@ array-borrow-prefix-weights : tie.Need-array-borrow-prefix-weights
 array-borrow-prefix-weights c = search needs
 
 slice-aggregate-write-in-2 : tie.Need-slice-aggregate-write-in-2
-slice-aggregate-write-in-2 c = let s = c .before .before .before .before .before .before .before .before .before .before .before in sym (length-take-le (s .args .l) _ (s .pre .0 .0 .l-most))
+slice-aggregate-write-in-2 c = let s = c .before .before .before .before .before .before .before .before .before .before .before .before in sym (length-take-le (s .args .l) _ (s .pre .0 .0 .l-most))
 
 write-in-requires : tie.Need-write-in-requires
 write-in-requires c κs =
-    let s = c .before .before .before .before .before .before .before .before .before .before .before .before .before .before in
+    let s = c .before .before .before .before .before .before .before .before .before .before .before .before .before .before .before in
     (s .pre .0, ((length-take-le _ _ (c .before .before .before .before .before .quotient-size .ensures .1) ∙ c .before .before .before .before .before .quotient-size .ensures .0, length-take-le (s .args .l) _ (s .pre .0 .0 .l-most)), s .pre .1))
 
 same-length : tie.Need-same-length

@@ -17,12 +17,12 @@ returns : tie.Need-returns
 unfolding quotientOf
 returns c =
     let e = c .before .verdict .ensures in
-    (e, refused _ (c .before .before .before .before .before .before .before .before .before .args .out .now) e (c .if1 .taken))
+    (e, refused _ (c .before .before .before .before .before .before .before .before .before .before .args .out .now) e (c .if1 .taken))
 
 write-requires : tie.Need-write-requires
 write-requires c κs =
-    let a = c .before .before .before .before .before .before .before .before .before .before .args in
-    quotient-accepted (a .m) (a .n) (a .k) (a .l) (a .a .now) (a .b .now) (a .c .now) (a .items .now) (a .wits .now) (a .out .now) (sym (c .before .before .verdict .ensures) ∙ c .before .if1 .left)
+    let a = c .before .before .before .before .before .before .before .before .before .before .before .args in
+    quotient-accepted (a .m) (a .n) (a .k) (a .l) (a .points .now) (a .a .now) (a .b .now) (a .c .now) (a .items .now) (a .wits .now) (a .out .now) (sym (c .before .before .verdict .ensures) ∙ c .before .if1 .left)
 
 same-length-2 : tie.Need-same-length-2
 same-length-2 c = search needs
@@ -32,7 +32,7 @@ unfolding quotientOf
 returns-2 c =
     let e = c .before .before .before .before .before .verdict .ensures in
     let z = c .before .before .before .before .if1 .left in
-    (sym z ∙ e, accepted (c .before .before .before .before .before .before .before .before .before .before .before .before .before .args .out .now) e z (c .before .before .write .ensures))
+    (sym z ∙ e, accepted (c .before .before .before .before .before .before .before .before .before .before .before .before .before .before .args .out .now) e z (c .before .before .write .ensures))
 
 pub quotient-spec : {M : Type 1} → statement M
 quotient-spec =

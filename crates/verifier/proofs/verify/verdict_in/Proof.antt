@@ -68,7 +68,7 @@ openings-lead-requires c κs =
 
 -- Check 8.
 lead : (c : tie.After-openings-lead) → (let a = c .before .before .before .before .before .before .before .before .before .before .before .before .before .before .before .before .before .before .before .before .args in c .openings-lead .result
-    ≡ openingsLead (a .k) (readItems (a .m) (a .n) (a .l) (a .items .now)) (readShown (a .m) (a .n) (a .k) (a .l) (a .t) (a .challenge) (a .positions .now) (a .item .now) (a .openings .now)))
+    ≡ openingsLead (readItems (a .m) (a .n) (a .l) (a .items .now)) (readShown (a .m) (a .n) (a .k) (a .l) (a .t) (a .challenge) (a .positions .now) (a .item .now) (a .openings .now)))
 lead c =
     let s = c .before .before .before .before .before .before .before .before .before .before .before .before .before .before .before .before .before .before .before .before in
     let a = s .args in

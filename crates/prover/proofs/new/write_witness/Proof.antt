@@ -1,4 +1,4 @@
--- `folding::write_witness` meets its contract: the combination fills the front of an array.
+-- `new::write_witness` meets its contract: the combination fills the front of an array.
 use mathlib.Core.Path.{_≡_, sym, ap, _∙_}
 use Prim.Native.Nat.{ℕ, _*_}
 use native.Mathlib.Omega.{arith}
@@ -9,8 +9,8 @@ use Rattle.fold.proofs.Mixing.{length-weights}
 use Rattle.checks.proofs.Fronts.{front-length, front-fits, front-taken, front-count}
 use Rattle.prover.proofs.Written.{witness-inside, new-witness, new-witness-length}
 use borrow.Author.Needs.{needs}
-use Rattle.prover.proofs.folding.write_witness.Statement.{statement}
-use Rattle.prover.proofs.folding.write_witness.Tie as tie
+use Rattle.prover.proofs.new.write_witness.Statement.{statement}
+use Rattle.prover.proofs.new.write_witness.Tie as tie
 
 array-borrow-prefix-values : tie.Need-array-borrow-prefix-values
 array-borrow-prefix-values c = search needs

@@ -1,0 +1,62 @@
+//! Points with k = 64: which of them a call uses, check 12, and codewords at them.
+
+use crate::checks::{load, K};
+use crate::plain::{codeword, codeword_at, P};
+
+/// The points that a call uses: those that it is lent, or none for the built-in ones.
+pub struct Points(Option<[u32; 4 * K]>);
+
+impl Points {
+    /// Check 2: none are lent, or 4k.
+    pub fn fit(lent: &[u8]) -> bool {
+        lent.is_empty() || lent.len() == 16 * K
+    }
+
+    /// Check 12, for points that fit.
+    pub fn check(lent: &[u8]) -> Result<Points, u32> {
+        if lent.is_empty() {
+            return Ok(Points(None));
+        }
+        let mut points = [0; 4 * K];
+        load(lent, &mut points);
+        if differ(&points) {
+            Ok(Points(Some(points)))
+        } else {
+            Err(12)
+        }
+    }
+
+    pub fn codeword(&self, w: &[u32; K]) -> [u32; 4 * K] {
+        let mut out = [0; 4 * K];
+        match &self.0 {
+            None => codeword(w, &mut out),
+            Some(points) => codeword_at(w, points, &mut out),
+        }
+        out
+    }
+}
+
+/// The answer of checks 2 and 12.
+#[inline(never)]
+pub fn answer(lent: &[u8]) -> u32 {
+    if !Points::fit(lent) {
+        return 2;
+    }
+    Points::check(lent).err().unwrap_or(0)
+}
+
+/// Whether all points are below p and no two are equal.
+#[inline(never)]
+pub fn differ(points: &[u32]) -> bool {
+    points.iter().all(|point| *point < P)
+        && points.iter().enumerate().all(|(i, point)| !is_among(*point, &points[i + 1..]))
+}
+
+/// Without an early exit, so that several are compared at a time.
+fn is_among(point: u32, rest: &[u32]) -> bool {
+    let mut found = false;
+    for other in rest {
+        found |= *other == point;
+    }
+    found
+}
