@@ -14,7 +14,7 @@ pub fn fits(k: usize, points: &[u8]) -> bool
     (points.len() == 0) | (points.len() == 4 * (4 * k))
 }
 
-// Check 12 of as many points as lent, which is scratch space, has numbers.
+// Check 12; lent is scratch space for the numbers of the points.
 fn differ_in(points: &[u8], lent: &mut [u32]) -> bool
     requires { ⌜ length (now points) ≡ 4 * length (now lent) ⌝ }
     ensures { λ r. ⌜ r ≡ pointsDiffer (now (points .entry)) ⌝ }
