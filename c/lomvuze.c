@@ -18,6 +18,7 @@ const char *lomvuze_strerror(uint32_t answer) {
     case LOMVUZE_ROOT: return "a root is not that of its witness";
     case LOMVUZE_CLAIM: return "an item does not hold";
     case LOMVUZE_POINTS: return "a point repeats another, or is p or more";
+    case LOMVUZE_FIRST_INPUT: return "an item's first input is not 1";
     default: return "unknown answer";
   }
 }

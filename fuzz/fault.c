@@ -13,6 +13,13 @@ static bool is(const char *name) {
   return chosen != NULL && strcmp(chosen, name) == 0;
 }
 
+/* The check that the call runs directly after this one. */
+static uint32_t following(uint32_t check) {
+  const uint32_t *next = target.checks;
+  while (*next != check) next++;
+  return next[1];
+}
+
 uint32_t fault(const struct call *call, uint32_t answer) {
   static unsigned calls;
   calls++;
@@ -38,5 +45,8 @@ uint32_t fault(const struct call *call, uint32_t answer) {
   if (is("answers-in-turns") && calls % 2 == 0) return LOMVUZE_ACCEPTED;
   if (is("accepts")) return LOMVUZE_ACCEPTED;
   if (is("refuses") && answer == LOMVUZE_ACCEPTED) return LOMVUZE_ELEMENT;
+  if (is("misses-first-inputs") && answer == LOMVUZE_FIRST_INPUT) return following(answer);
+  bool after = answer != LOMVUZE_ACCEPTED && !comes_before(answer, LOMVUZE_FIRST_INPUT);
+  if (is("refuses-first-inputs") && after) return LOMVUZE_FIRST_INPUT;
   return answer;
 }

@@ -29,7 +29,7 @@ static void compare(const struct call *c, uint32_t answer) {
   struct buffer quotient = scratch(c->out[0].length);
   uint32_t alone = lomvuze_quotient(s->m, s->n, s->k, s->l, OVER(c), BYTES(c->in[4]), BYTES(c->in[5]), BYTES(quotient));
   bool permitted = s->l <= s->challenge && s->challenge < LOMVUZE_P;
-  bool before = alone == LOMVUZE_ELEMENT || alone == LOMVUZE_POINTS || alone == LOMVUZE_CIRCUIT;
+  bool before = comes_before(alone, LOMVUZE_CHALLENGE);
   REQUIRE(answer == (before || permitted ? alone : LOMVUZE_CHALLENGE), "the quotient or the challenge says another answer");
   if (answer != LOMVUZE_ACCEPTED) return;
 
@@ -49,7 +49,7 @@ const struct target target = {
     "mnkla",
     {POINTS, ENTRIES, ENTRIES, ENTRIES, ITEMS, WITNESSES},
     {QUOTIENT, ITEM, WITNESS},
-    {LOMVUZE_SIZE, LOMVUZE_ELEMENT, LOMVUZE_POINTS, LOMVUZE_CIRCUIT, LOMVUZE_CHALLENGE, LOMVUZE_ROOT, LOMVUZE_CLAIM},
+    {LOMVUZE_SIZE, LOMVUZE_ELEMENT, LOMVUZE_POINTS, LOMVUZE_CIRCUIT, LOMVUZE_FIRST_INPUT, LOMVUZE_CHALLENGE, LOMVUZE_ROOT, LOMVUZE_CLAIM},
     run,
     compare,
     NULL,

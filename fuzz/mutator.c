@@ -1,6 +1,7 @@
 /*
  * Changes an input by its structure: libFuzzer does not see the library's code, so that inputs of random changes would stop at check 2. A change
- * is to a number, to the choice of points, to a buffer's length or, mostly, to the contents of a buffer, each buffer as often as any other.
+ * is to a number, to the choice of points, to a buffer's length or, mostly, to the contents of a buffer, each buffer as often as any other. First
+ * inputs are mostly made 1 again after it, since items of other sizes have other numbers there.
  */
 #include "target.h"
 
@@ -181,6 +182,14 @@ static void change_contents(void) {
   }
 }
 
+/* Ones for first inputs, and now and then another number for one of them. */
+static void lead(void) {
+  uint8_t *at[LOMVUZE_MAX_PAIRS];
+  size_t count = leading_places(&input, at);
+  for (size_t i = 0; i < count; i++) put_number(at[i], 1);
+  if (count > 0 && below(16) == 0) put_number(at[below(count)], edge());
+}
+
 size_t LLVMFuzzerCustomMutator(uint8_t *data, size_t size, size_t most, unsigned int seed);
 size_t LLVMFuzzerCustomMutator(uint8_t *data, size_t size, size_t most, unsigned int seed) {
   state = ((uint64_t)seed * 2 + UINT64_C(0x9e3779b97f4a7c15)) | 1;
@@ -197,5 +206,6 @@ size_t LLVMFuzzerCustomMutator(uint8_t *data, size_t size, size_t most, unsigned
       default: change_contents();
     }
   }
+  if (part_of(0) != SHEET && below(4) != 0) lead();
   return pack(&input, data, most);
 }

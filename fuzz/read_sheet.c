@@ -40,7 +40,7 @@ static void put_line(const char *keyword, struct buffer numbers, struct buffer r
 
 /*
  * The sheet is what was read, written as text: the line rules leave one way to write it, but for the last byte. Deciding finds nothing wrong
- * with sizes, elements and circuit.
+ * with sizes, elements, circuit and first inputs.
  */
 static void compare(const struct call *c, uint32_t answer) {
   compare_lengths(c, answer);
@@ -105,7 +105,16 @@ static void count_pairs(struct input *input) {
   replace(input, last, input->lengths[0], line, (size_t)sprintf(line, "end\t%zu\n", pairs));
 }
 
-/* Another number in a field, often of the first line; or a line, or an item with its witness, copied or dropped. */
+/* Where a field starts: often one of the first line, or a first input. */
+static size_t some_field(struct input *input, size_t (*below)(size_t)) {
+  uint8_t *at[LOMVUZE_MAX_PAIRS];
+  size_t count = leading_places(input, at), choice = below(8);
+  if (choice < 2) return behind(input, below(8), '\t');
+  if (choice == 2 && count > 0) return (size_t)(at[below(count)] - input->contents[0]);
+  return behind(input, below(input->lengths[0]), '\t');
+}
+
+/* Another number in a field; or a line, or an item with its witness, copied or dropped. */
 static void change(struct input *input, size_t (*below)(size_t)) {
   static const char *const numbers[] = {"0", "1", "2", "6", "7", "64", "65", "2013265920", "2013265921", "4294967295"};
   const uint8_t *sheet = input->contents[0];
@@ -113,7 +122,7 @@ static void change(struct input *input, size_t (*below)(size_t)) {
   size_t start = below(input->lengths[0]);
   if (below(2) == 0) {
     const char *number = numbers[below(sizeof numbers / sizeof numbers[0])];
-    size_t end = start = behind(input, below(4) == 0 ? below(8) : start, '\t');
+    size_t end = start = some_field(input, below);
     while (end < input->lengths[0] && sheet[end] >= '0') end++;
     replace(input, start, end, number, strlen(number));
   } else {
@@ -133,7 +142,7 @@ const struct target target = {
     "",
     {SHEET},
     {SHEET_ENTRIES, SHEET_ENTRIES, SHEET_ENTRIES, SHEET_ITEMS, SHEET_WITNESSES, SHEET_SIZES},
-    {LOMVUZE_SHEET, LOMVUZE_SIZE, LOMVUZE_ELEMENT, LOMVUZE_CIRCUIT},
+    {LOMVUZE_SHEET, LOMVUZE_SIZE, LOMVUZE_ELEMENT, LOMVUZE_CIRCUIT, LOMVUZE_FIRST_INPUT},
     run,
     compare,
     change,

@@ -17,12 +17,12 @@ fail() { printf 'FAILED: %s\n' "$1"; exit 1; }
 calls=$(sed -n 's/^uint32_t lomvuze_\([a-z_]*\)(.*/\1/p' include/lomvuze.h)
 flags=(-std=c11 -O1 -g -Wall -Wextra -Wpedantic -Werror -Iinclude)
 checked=(-fsanitize=address,undefined -fno-sanitize-recover=undefined)
-for part in target input points memory replay $calls; do
+for part in target input points leading memory replay $calls; do
     cc "${flags[@]}" "${checked[@]}" -c -o "$folder/$part.o" "fuzz/$part.c"
 done
 cc "${flags[@]}" -c -o "$folder/fault.o" fuzz/fault.c
 for call in $calls; do
-    objects=("$folder"/{"$call",target,input,points,memory,replay}.o)
+    objects=("$folder"/{"$call",target,input,points,leading,memory,replay}.o)
     cc "${checked[@]}" -o "$folder/$call" "${objects[@]}" "$library"
     cc "${checked[@]}" -o "$folder/$call.faulty" "${objects[@]}" "$folder/fault.o" "$library"
 done
@@ -71,6 +71,12 @@ for call in $calls; do
         else
             control "$call" "$seed" accepts 'FOUND: '
             control "$call" "$seed" answers-in-turns 'FOUND: another answer'
+        fi
+        if [ "$call" != read_sheet ] && compgen -G "fuzz/corpus/$call/13*" >/dev/null; then
+            case ${seed##*/} in
+                13*) control "$call" "$seed" misses-first-inputs 'FOUND: check 13' ;;
+                [5-9]* | 1[01]*) control "$call" "$seed" refuses-first-inputs 'FOUND: check 13' ;;
+            esac
         fi
         if [[ ${seed##*/} = 0-built-in ]]; then
             control "$call" "$seed" "$([ "$writes" ] && echo writes-another-byte || echo refuses)" 'FOUND: the built-in points'

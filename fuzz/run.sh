@@ -24,13 +24,13 @@ fi
 
 # Coverage of the targets themselves would say nothing about the library, so they have none; target.c tells libFuzzer what to keep.
 checked=(-fsanitize=address,undefined -fno-sanitize-recover=undefined)
-for part in target input points memory mutator "${calls[@]}"; do
+for part in target input points leading memory mutator "${calls[@]}"; do
     clang -std=c11 -O1 -g -Wall -Wextra -Wpedantic -Werror -Iinclude "${checked[@]}" -c -o "$folder/$part.o" "fuzz/$part.c"
 done
 
 status=0
 for call in "${calls[@]}"; do
-    clang "${checked[@]}" -fsanitize=fuzzer -o "$folder/$call" "$folder/$call.o" "$folder"/{target,input,points,memory,mutator}.o "$library"
+    clang "${checked[@]}" -fsanitize=fuzzer -o "$folder/$call" "$folder/$call.o" "$folder"/{target,input,points,leading,memory,mutator}.o "$library"
     log="$folder/$call.log"
     seeds=("fuzz/corpus/$call")
     [ ! -d "$folder/seeds/$call" ] || seeds+=("$folder/seeds/$call")

@@ -6,6 +6,8 @@
  *   - The answer is 0 or one of the call's checks. It is LOMVUZE_SIZE exactly if a size or a length is not permitted. A length of 2^32 more is
  *     not, though its last 32 bits are the same. A sheet has sizes and counts too, and its lines are checked first.
  *   - It is LOMVUZE_POINTS exactly if a point repeats another or is p or more, and LOMVUZE_SIZE and LOMVUZE_ELEMENT pass.
+ *   - It is LOMVUZE_FIRST_INPUT exactly if a first input that the call tests is not 1, and the checks before it pass. With another first input it
+ *     is that, or the check before it that it was.
  *   - The built-in points lent by hand give what the empty buffer gives.
  *   - Input buffers are unchanged. After a refusal output buffers are too.
  *   - Both runs give the same answer. After 0 they leave the same bytes, though output buffers held others before; beyond what a sheet gives
@@ -27,7 +29,7 @@ void found(const char *what) {
  * answer: a change of an accepted input reaches further than one of an input that was refused.
  */
 
-enum { SIZES = 7 * 6 * 8 * 3, ANSWERS = LOMVUZE_POINTS + 1 };
+enum { SIZES = 7 * 6 * 8 * 3, ANSWERS = LOMVUZE_FIRST_INPUT + 1 };
 
 __attribute__((section("__libfuzzer_extra_counters"))) static uint8_t seen[SIZES + ANSWERS];
 
@@ -79,6 +81,13 @@ static bool allowed(uint32_t answer) {
   if (answer == LOMVUZE_ACCEPTED) return true;
   for (const uint32_t *check = target.checks; *check != 0; check++) {
     if (answer == *check) return true;
+  }
+  return false;
+}
+
+bool comes_before(uint32_t one, uint32_t other) {
+  for (const uint32_t *check = target.checks; *check != 0 && *check != other; check++) {
+    if (*check == one) return true;
   }
   return false;
 }
@@ -156,6 +165,24 @@ static void check_points(const struct input *input, const struct call *call, uin
   if (input->points == BUILT_IN) run_without_points(call, answer);
 }
 
+/* Makes the call with 0 for a first input that is 1, in the text of a sheet too. */
+static void run_without_one(const struct call *call, enum end end, uint32_t answer) {
+  uint8_t *one = leading_one(call, end);
+  if (one == NULL) return;
+  *one ^= 1;
+  REQUIRE(target.run(call) == answer, "check 13 is not in its place");
+  *one ^= 1;
+}
+
+/* What a call says of first inputs, where no check before that one refuses. */
+static void check_first_inputs(const struct call *call, uint32_t answer) {
+  if (!allowed(LOMVUZE_FIRST_INPUT) || answer == LOMVUZE_SHEET) return;
+  bool before = comes_before(answer, LOMVUZE_FIRST_INPUT);
+  REQUIRE(before || (answer == LOMVUZE_FIRST_INPUT) == !ones_lead(call), "check 13 is not what the first inputs say");
+  run_without_one(call, FIRST, before ? answer : LOMVUZE_FIRST_INPUT);
+  run_without_one(call, LAST, before ? answer : LOMVUZE_FIRST_INPUT);
+}
+
 int LLVMFuzzerTestOneInput(const uint8_t *data, size_t size) {
   static struct input input;
   struct call first = {0}, second = {0};
@@ -173,6 +200,7 @@ int LLVMFuzzerTestOneInput(const uint8_t *data, size_t size) {
   if (answer != LOMVUZE_SIZE) {
     run_far(&second, answer);
     check_points(&input, &second, answer);
+    check_first_inputs(&second, answer);
     target.compare(&second, answer);
   }
   if (answer == LOMVUZE_ACCEPTED && reads_sheet()) {
@@ -185,6 +213,7 @@ int LLVMFuzzerTestOneInput(const uint8_t *data, size_t size) {
 
 struct buffer item_of(uint32_t k, struct buffer points, struct buffer witness) {
   struct buffer none = scratch(0), x = scratch(LOMVUZE_X_BYTES(1)), item = scratch(LOMVUZE_ITEM_BYTES(0, 1));
+  put_number(x.bytes, 1);
   uint32_t answer =
       lomvuze_cast(0, 1, k, BYTES(points), BYTES(none), BYTES(none), BYTES(none), BYTES(none), BYTES(x), BYTES(witness), BYTES(item));
   REQUIRE(answer == LOMVUZE_ACCEPTED, "a witness is not cast with an empty circuit");

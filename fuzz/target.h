@@ -1,7 +1,7 @@
 /*
  * Fuzz targets: each tries one call of include/lomvuze.h on inputs that a fuzzer makes. The file of a call, such as verify.c, defines
- * `target`; target.c runs the call and checks what it did, input.c reads inputs, points.c has what is known of points, memory.c the buffers, and
- * mutator.c changes inputs.
+ * `target`; target.c runs the call and checks what it did, input.c reads inputs, points.c has what is known of points, leading.c of first inputs,
+ * memory.c the buffers, and mutator.c changes inputs.
  *
  * THE INPUT
  *
@@ -27,7 +27,7 @@
 
 #include "lomvuze.h"
 
-enum { MOST_NUMBERS = 6, MOST_INPUTS = 7, MOST_OUTPUTS = 6, MOST_BUFFERS = MOST_INPUTS + MOST_OUTPUTS, MOST_CHECKS = 7 };
+enum { MOST_NUMBERS = 6, MOST_INPUTS = 7, MOST_OUTPUTS = 6, MOST_BUFFERS = MOST_INPUTS + MOST_OUTPUTS, MOST_CHECKS = 8 };
 
 /* No buffer is longer. */
 enum { LONGEST = 1 << 20 };
@@ -85,7 +85,7 @@ struct input;
 struct target {
   const char *numbers;                                          /* their letters, in the call's order; a is the challenge */
   enum part inputs[MOST_INPUTS + 1], outputs[MOST_OUTPUTS + 1]; /* in the call's order; END follows */
-  uint32_t checks[MOST_CHECKS + 1];                             /* that the call runs; 0 follows */
+  uint32_t checks[MOST_CHECKS + 1];                             /* that the call runs, in its order; 0 follows */
   uint32_t (*run)(const struct call *call);                     /* makes the call */
   void (*compare)(const struct call *call, uint32_t answer);    /* compares it with other calls, after it; not for LOMVUZE_SIZE */
   void (*change)(struct input *input, size_t (*below)(size_t)); /* a change of the mutator for this call alone; NULL for none */
@@ -113,6 +113,9 @@ struct buffer slice(struct buffer buffer, size_t start, size_t length);
 
 void put_number(uint8_t *bytes, uint32_t number);
 uint32_t number_at(const uint8_t *bytes);
+
+/* Whether the call tests one check before the other. */
+bool comes_before(uint32_t one, uint32_t other);
 
 /* The item, for m = 0 and n = 1, of a witness over points that pass, and a circuit without entries. */
 struct buffer item_of(uint32_t k, struct buffer points, struct buffer witness);
@@ -153,6 +156,16 @@ void put_built_in(uint8_t *bytes, size_t length, uint32_t k);
 
 /* Whether points pass check 12: none is p or more, none repeats another. */
 bool points_pass(struct buffer points);
+
+/* Whether the first inputs that the call tests are 1, where it passes checks 1 and 2. */
+bool ones_lead(const struct call *call);
+
+/* That of the first item or of the last, where it is 1, and else NULL. */
+enum end { FIRST, LAST };
+uint8_t *leading_one(const struct call *call, enum end end);
+
+/* Where they stand in an input, and how many they are: none where the call has none, or sizes and lengths do not pass check 2. */
+size_t leading_places(struct input *input, uint8_t *at[LOMVUZE_MAX_PAIRS]);
 
 /* log2(4k), from the last bits of k alone: those of 2^30 more are the same. */
 uint32_t depth_of(uint32_t k);

@@ -7,7 +7,10 @@ static uint32_t run(const struct call *c) {
                         BYTES(c->in[4]));
 }
 
-/* Verifying at each position alone: the first check that fails at any of them is the answer. With another opening it is not 0. */
+/*
+ * Verifying at each position alone: the first check that fails at any of them is the answer. With another opening it is not 0, and with another
+ * first input of the new item it is check 7.
+ */
 static void compare(const struct call *c, uint32_t answer) {
   const struct sizes *s = &c->sizes;
   size_t all = LOMVUZE_ALL_OPENINGS_BYTES(s->k, s->l, 1);
@@ -16,7 +19,7 @@ static void compare(const struct call *c, uint32_t answer) {
     struct buffer position = slice(c->in[1], LOMVUZE_POSITIONS_BYTES(q), LOMVUZE_POSITIONS_BYTES(1)), openings = slice(c->in[4], q * all, all);
     uint32_t alone = lomvuze_verify(s->m, s->n, s->k, s->l, 1, s->challenge, BYTES(c->in[0]), BYTES(position), BYTES(c->in[2]),
                                     BYTES(c->in[3]), BYTES(openings));
-    if (alone != LOMVUZE_ACCEPTED && (least == LOMVUZE_ACCEPTED || alone < least)) least = alone;
+    if (alone != LOMVUZE_ACCEPTED && (least == LOMVUZE_ACCEPTED || comes_before(alone, least))) least = alone;
   }
   REQUIRE(answer == least, "the positions one by one have another answer");
   if (answer != LOMVUZE_ACCEPTED) return;
@@ -25,6 +28,10 @@ static void compare(const struct call *c, uint32_t answer) {
   c->in[4].bytes[at] ^= 1;
   REQUIRE(run(c) != LOMVUZE_ACCEPTED, "another opening is accepted");
   c->in[4].bytes[at] ^= 1;
+  uint8_t *first = c->in[3].bytes + LOMVUZE_NUMBER_BYTES + LOMVUZE_R_BYTES(s->m);
+  put_number(first, 0);
+  REQUIRE(run(c) == LOMVUZE_NEW_ITEM, "another first input of the new item is not refused by its check");
+  put_number(first, 1);
 }
 
 /* Gives the new item the root and the openings of another item: the openings lead to their roots, but do not combine. */
@@ -43,7 +50,7 @@ const struct target target = {
     "mnklta",
     {ITEMS, POSITIONS, QUOTIENT, ITEM, ALL_OPENINGS},
     {END},
-    {LOMVUZE_SIZE, LOMVUZE_ELEMENT, LOMVUZE_CHALLENGE, LOMVUZE_POSITION, LOMVUZE_NEW_ITEM, LOMVUZE_OPENING, LOMVUZE_COMBINATION},
+    {LOMVUZE_SIZE, LOMVUZE_ELEMENT, LOMVUZE_FIRST_INPUT, LOMVUZE_CHALLENGE, LOMVUZE_POSITION, LOMVUZE_NEW_ITEM, LOMVUZE_OPENING, LOMVUZE_COMBINATION},
     run,
     compare,
     change,

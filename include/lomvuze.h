@@ -10,7 +10,7 @@
  * SIZES
  *
  *   m  0 to 6                    a circuit has 2^m rows
- *   n  1 to 64                   public inputs of a claim
+ *   n  1 to 64                   public inputs of a claim: the first is 1
  *   k  2, 4, 8, 16, 32 or 64     numbers of a witness
  *   l  1 to 8                    items of a fold
  *   t  1 to 4k                   positions at which a fold is opened; repeats are permitted
@@ -27,13 +27,27 @@
  *   points     4k elements, all different, or an empty buffer for the built-in ones: see POINTS
  *   witness    k elements
  *   codeword   4k elements: the value at point i stands at position i
- *   item       e, r (m elements), x (n elements), root (a digest)
+ *   item       e, r (m elements), x (n elements, of which the first is 1), root (a digest)
  *   quotient   (l - 1) * (m + 1) elements, the coefficient of X^0 first
  *   positions  t numbers below 4k
  *   opening    the codeword's value at a position, then log2(4k) digests: the siblings from the
  *              leaf upwards. The position is not among its bytes, but is hashed in its leaf.
  *
  * Several items, witnesses or openings follow one another without gaps.
+ *
+ * THE FIRST INPUT
+ *
+ * The first number of x is the constant 1, also where n = 1, and the entries of column 0 are the
+ * circuit's constants. Where it is another number LOMVUZE_FIRST_INPUT refuses: in cast over the x
+ * lent, in quotient, fold and verify over each of the l items, in decide over its item, and in a
+ * sheet over each item. The new item of a fold has it without a test, since the L_i (see FOLDS) add
+ * up to 1. Verify does not test it there: with another first input new_item is not the one that
+ * items and challenge give, and LOMVUZE_NEW_ITEM refuses it.
+ *
+ * Before version 0.4.0 it was a number like the others. Batches and sheets of that time are
+ * refused by LOMVUZE_FIRST_INPUT, but for those whose first inputs are 1. In the new form n and
+ * each column of the circuit are one higher, and a 1 stands in front of each x, that of the new
+ * item too. All else stays: e, r, roots, witnesses, quotient and openings.
  *
  * POINTS
  *
@@ -115,10 +129,11 @@
  *      that are folded above. Otherwise another item stands in its place, and every call answers 0.
  *
  * What one accepted fold (both answers 0) establishes: the new item is the combination of exactly
- * the l items lent, at this challenge, and holds with a witness of its root; each opened value of
- * each item leads to that item's root. Its verdict covers these l items and no others. Where they
- * are the new items of folds below, it is about them, and of what was folded below it says no more
- * than deciding those new items would: no theorem is about depth.
+ * the l items lent, at this challenge, and holds with a witness of its root; each of these items
+ * has 1 as its first input; each opened value of each item leads to that item's root. Its verdict
+ * covers these l items and no others. Where they are the new items of folds below, it is about
+ * them, and of what was folded below it says no more than deciding those new items would: no
+ * theorem is about depth.
  *
  * What it does not establish: that any of the items holds, or that a root is that of a codeword.
  * Accepted at more than (l - 1) * (m + 2) challenges, with the same circuit, points, items,
@@ -150,8 +165,9 @@
  *
  * Each of the eight calls and the sheet reader returns 0 or the number of the first of its checks
  * that fails (enum lomvuze_answer). Each check covers the whole input before the next one runs, in
- * the order that stands at each call: LOMVUZE_POINTS, which is 12, comes directly after 3. What a
- * call returns and writes depends on its arguments alone.
+ * the order that stands at each call: LOMVUZE_POINTS, which is 12, comes directly after 3, and
+ * LOMVUZE_FIRST_INPUT, which is 13, directly after 4 (in verify, which has no 4, directly after 3).
+ * What a call returns and writes depends on its arguments alone.
  *
  * A call that does not return 0 has written nothing: its output buffers are as they were.
  *
@@ -193,7 +209,7 @@ extern "C" {
 /* ---- The version of this header: numbers, and the text "MAJOR.MINOR.PATCH" */
 
 #define LOMVUZE_VERSION_MAJOR 0
-#define LOMVUZE_VERSION_MINOR 3
+#define LOMVUZE_VERSION_MINOR 4
 #define LOMVUZE_VERSION_PATCH 0
 #define LOMVUZE_VERSION \
   LOMVUZE_TEXT(LOMVUZE_VERSION_MAJOR, LOMVUZE_VERSION_MINOR, LOMVUZE_VERSION_PATCH)
@@ -381,7 +397,10 @@ enum lomvuze_answer {
   LOMVUZE_CLAIM = 11,
 
   /* A point repeats another, or is p or more. */
-  LOMVUZE_POINTS = 12
+  LOMVUZE_POINTS = 12,
+
+  /* An item's first input is not 1. */
+  LOMVUZE_FIRST_INPUT = 13
 };
 
 /*
@@ -408,12 +427,12 @@ uint32_t lomvuze_encode(uint32_t k,
  *   points    LOMVUZE_POINTS_BYTES(k), or none for the built-in points
  *   a, b, c   LOMVUZE_ENTRIES_BYTES of up to LOMVUZE_MAX_ENTRIES entries each
  *   r         LOMVUZE_R_BYTES(m)
- *   x         LOMVUZE_X_BYTES(n)
+ *   x         LOMVUZE_X_BYTES(n): its first number is 1
  *   w         LOMVUZE_WITNESS_BYTES(k)
  *   item_out  LOMVUZE_ITEM_BYTES(m, n)
  *
  * Checks, in this order: LOMVUZE_SIZE, LOMVUZE_ELEMENT, LOMVUZE_POINTS, LOMVUZE_CIRCUIT,
- * LOMVUZE_CLAIM.
+ * LOMVUZE_FIRST_INPUT, LOMVUZE_CLAIM.
  */
 uint32_t lomvuze_cast(uint32_t m, uint32_t n, uint32_t k,
                       const uint8_t *points, size_t points_len,
@@ -435,7 +454,7 @@ uint32_t lomvuze_cast(uint32_t m, uint32_t n, uint32_t k,
  *   quotient_out  LOMVUZE_QUOTIENT_BYTES(m, l)
  *
  * Checks, in this order: LOMVUZE_SIZE, LOMVUZE_ELEMENT, LOMVUZE_POINTS, LOMVUZE_CIRCUIT,
- * LOMVUZE_ROOT, LOMVUZE_CLAIM.
+ * LOMVUZE_FIRST_INPUT, LOMVUZE_ROOT, LOMVUZE_CLAIM.
  */
 uint32_t lomvuze_quotient(uint32_t m, uint32_t n, uint32_t k, uint32_t l,
                           const uint8_t *points, size_t points_len,
@@ -459,8 +478,8 @@ uint32_t lomvuze_quotient(uint32_t m, uint32_t n, uint32_t k, uint32_t l,
  *   wit_out       LOMVUZE_WITNESS_BYTES(k)
  *
  * Checks, in this order: LOMVUZE_SIZE, LOMVUZE_ELEMENT, LOMVUZE_POINTS, LOMVUZE_CIRCUIT,
- * LOMVUZE_CHALLENGE, LOMVUZE_ROOT, LOMVUZE_CLAIM. A challenge of p or more is LOMVUZE_CHALLENGE,
- * not LOMVUZE_ELEMENT.
+ * LOMVUZE_FIRST_INPUT, LOMVUZE_CHALLENGE, LOMVUZE_ROOT, LOMVUZE_CLAIM. A challenge of p or more is
+ * LOMVUZE_CHALLENGE, not LOMVUZE_ELEMENT.
  */
 uint32_t lomvuze_fold(uint32_t m, uint32_t n, uint32_t k, uint32_t l,
                       uint32_t challenge,
@@ -518,9 +537,10 @@ uint32_t lomvuze_interleave(uint32_t k, uint32_t l, uint32_t t,
  *              item, the new item last. The opening of item i at position number q starts at
  *              (q * (l + 1) + i) * LOMVUZE_OPENING_BYTES(k), and the new item has i = l.
  *
- * Checks, in this order: LOMVUZE_SIZE, LOMVUZE_ELEMENT, LOMVUZE_CHALLENGE, LOMVUZE_POSITION,
- * LOMVUZE_NEW_ITEM, LOMVUZE_OPENING, LOMVUZE_COMBINATION. A challenge of p or more is
- * LOMVUZE_CHALLENGE, not LOMVUZE_ELEMENT.
+ * Checks, in this order: LOMVUZE_SIZE, LOMVUZE_ELEMENT, LOMVUZE_FIRST_INPUT, LOMVUZE_CHALLENGE,
+ * LOMVUZE_POSITION, LOMVUZE_NEW_ITEM, LOMVUZE_OPENING, LOMVUZE_COMBINATION. A challenge of p or
+ * more is LOMVUZE_CHALLENGE, not LOMVUZE_ELEMENT. Another first input of new_item than 1 is
+ * LOMVUZE_NEW_ITEM, not LOMVUZE_FIRST_INPUT, which is about the l items.
  */
 uint32_t lomvuze_verify(uint32_t m, uint32_t n, uint32_t k, uint32_t l, uint32_t t,
                         uint32_t challenge,
@@ -539,7 +559,7 @@ uint32_t lomvuze_verify(uint32_t m, uint32_t n, uint32_t k, uint32_t l, uint32_t
  *   wit      LOMVUZE_WITNESS_BYTES(k)
  *
  * Checks, in this order: LOMVUZE_SIZE, LOMVUZE_ELEMENT, LOMVUZE_POINTS, LOMVUZE_CIRCUIT,
- * LOMVUZE_ROOT, LOMVUZE_CLAIM.
+ * LOMVUZE_FIRST_INPUT, LOMVUZE_ROOT, LOMVUZE_CLAIM.
  */
 uint32_t lomvuze_decide(uint32_t m, uint32_t n, uint32_t k,
                         const uint8_t *points, size_t points_len,
@@ -561,7 +581,8 @@ uint32_t lomvuze_decide(uint32_t m, uint32_t n, uint32_t k,
  *   sizes_out         m, n, k, the count of entries of A, B and C, and the count of pairs. An array
  *                     of numbers in the machine's own order, which has to be aligned as such.
  *
- * Checks, in this order: LOMVUZE_SHEET, LOMVUZE_SIZE, LOMVUZE_ELEMENT, LOMVUZE_CIRCUIT.
+ * Checks, in this order: LOMVUZE_SHEET, LOMVUZE_SIZE, LOMVUZE_ELEMENT, LOMVUZE_CIRCUIT,
+ * LOMVUZE_FIRST_INPUT.
  */
 uint32_t lomvuze_read_sheet(const uint8_t *sheet, size_t sheet_len,
                             uint8_t *a_out, size_t a_out_len,

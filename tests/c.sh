@@ -37,10 +37,12 @@ echo "C and C++: no warning under $ways compilers and standards"
 
 # ---- What the headers have beside the calls
 cc -std=c11 -O1 "${flags[@]}" -o "$folder/lengths" tests/c/lengths.c
-cc -std=c11 -O1 "${flags[@]}" -o "$folder/plain" tests/c/plain.c $library
+for program in plain first_input; do
+    cc -std=c11 -O1 "${flags[@]}" -o "$folder/$program" "tests/c/$program.c" $library
+done
 c++ -std=c++11 -O1 "${plus[@]}" -o "$folder/containers" tests/c/containers.cc $library
 c++ -std=c++11 -O1 "${plus[@]}" -o "$folder/lengths_plus" -x c++ tests/c/lengths.c
-for program in lengths lengths_plus plain containers; do
+for program in lengths lengths_plus plain first_input containers; do
     ${LOMVUZE_RUN:-} "$folder/$program" || { echo "FAILED: $program"; exit 1; }
 done
 
@@ -93,6 +95,11 @@ expect fold_batch "$folder/damaged.bin" 1 "$statements
 $challenge
 item 1: e = 1, which is no fresh statement
 $none"
+damage statements.bin 656 '\002' # item 7's first input
+expect fold_batch "$folder/damaged.bin" 1 "${statements/'item 7: x = 1 '/'item 7: x = 2 '}
+$challenge
+fold 13: an item's first input is not 1
+$none"
 expect fold_batch examples/c/batch.bin 2 ""
 
 # verify_batch.
@@ -111,6 +118,16 @@ damage batch.bin 224 '\001\000\000\000' # item 0's e
 expect verify_batch "$folder/damaged.bin" 1 "item 0: e = 1, which is no fresh statement
 verify 7: the new item is not the one of the challenge
 decide 0: accepted
+$none"
+for offset in 236 296 356 416 476 536 596 656; do # each item's first input
+    damage batch.bin $offset '\002'
+    expect verify_batch "$folder/damaged.bin" 1 "verify 13: an item's first input is not 1
+decide 0: accepted
+$none"
+done
+damage batch.bin 864 '\002' # the new item's first input
+expect verify_batch "$folder/damaged.bin" 1 "verify 7: the new item is not the one of the challenge
+decide 13: an item's first input is not 1
 $none"
 damage batch.bin 704 '\040' # position 32 of 32
 expect verify_batch "$folder/damaged.bin" 1 "verify 6: a position is outside the codeword

@@ -36,6 +36,8 @@ for stored in examples/sheets/*.sheet; do
     expect "$stored" "$(cat "${stored%.sheet}.listing")" <"$stored"
 done
 expect 'an empty sheet' $'refused\t1' </dev/null
+expect 'another first input in the first item' $'refused\t13' < <(sed 's/\t1\t6\t/\t0\t6\t/' $sheet)
+expect 'another first input, and an entry outside' $'refused\t4' < <(sed 's/^c\t0/c\t1/' examples/sheets/refused-13.sheet)
 expect 'no pair' $'refused\t2' < <(sed '/^item/d; /^wit/d; s/^end.*/end\t0/' $sheet)
 expect '100 million bytes' $'refused\t1' < <(head -c 100000000 /dev/zero 2>/dev/null)
 
@@ -45,7 +47,7 @@ long() {
         zeros = sprintf("%064d", 0)
         for (i = 0; i < 64; i++) {
             pairs = pairs "item"
-            for (j = 0; j < 71; j++) pairs = pairs "\t" (i < 58 ? 1000000000 : 0)
+            for (j = 0; j < 71; j++) pairs = pairs "\t" (j == 7 ? 1 : i < 58 ? 1000000000 : 0)
             pairs = pairs "\t" zeros "\nwit"
             for (j = 0; j < 32; j++) pairs = pairs "\t1"
             pairs = pairs "\n"
@@ -79,6 +81,19 @@ tr ' ' '\t' <examples/sheets/spaces.sheet | cmp - $rooted
 { cat examples/sheets/no-end.sheet; printf 'end\t2\n'; } | cmp - $rooted
 passed=$((passed + 4))
 
+# A sheet in the form of before version 0.4.0, without the leading 1, is refused as 13; what docs/SHEETS.md says brings it into the new form.
+renew=$(sed -n '/^```sh$/,/^```$/p' docs/SHEETS.md | sed '1d;$d')
+for stored in rooted other-r; do
+    awk -F'\t' -v OFS='\t' '
+        $1 == "size" { m = $2; $3-- }
+        /^[abc]\t/ { $3-- }
+        $1 == "item" { $(m + 3) = ""; sub(/\t\t/, "\t") }
+        { print }' examples/sheets/$stored.sheet >"$folder/OLD"
+    expect "$stored in the old form" $'refused\t13' <"$folder/OLD"
+    (cd "$folder" && bash -c "$renew") && cmp "$folder/NEW" examples/sheets/$stored.sheet || fail "$stored is another sheet in the new form"
+    passed=$((passed + 1))
+done
+
 # The root of a witness, and what the program says to other arguments.
 refuses() { # refuses STATUS ARGUMENT...
     local status=0
@@ -102,6 +117,6 @@ while IFS= read -r -d '' commands && IFS= read -r -d '' output; do
 done < <(awk '
     /^    / { sub(/^ +/, ""); block = block (block == "" ? "" : "\n") $0; next }
     block != "" { printf "%s%c", block, 0; block = "" }' docs/SHEETS.md)
-[ "$pages" -ge 9 ] || fail "docs/SHEETS.md: $pages commands found"
+[ "$pages" -ge 11 ] || fail "docs/SHEETS.md: $pages commands found"
 passed=$((passed + pages))
 echo "claims: $passed runs as expected"

@@ -46,6 +46,7 @@ twenty=$(cat rust/lomvuze/examples/fold_sheet.twenty.expected)
 expect fold_sheet 1 "$printed" $sheets/printed.sheet
 expect fold_sheet 0 "$twenty" $sheets/twenty.sheet
 expect fold_sheet 1 'sheet: refused by check 2: a size, count or length is not permitted' $sheets/refused-2.sheet
+expect fold_sheet 1 "sheet: refused by check 13: an item's first input is not 1" $sheets/refused-13.sheet
 expect fold_sheet 2 ''
 
 # Runs fold_sheet on a changed sheet: its exit status, and its last lines.
@@ -63,7 +64,7 @@ expect_last 0 'covered: 2 of 2 items' <(sed 's/\t21\t/\t20\t/' $sheets/printed.s
 expect_last 1 'covered: 1 of 2 items
 not covered: item 1, refused by check 10: a root is not that of its witness' <(sed '/\t21\t/s/0$/1/' $sheets/printed.sheet)
 expect_last 1 'covered: 1 of 2 items
-not covered: item 1, not fresh: its e is not 0' <(sed 's/\t0\t21\t/\t2013265920\t21\t/' $sheets/printed.sheet)
+not covered: item 1, not fresh: its e is not 0' <(sed 's/\t0\t1\t21\t/\t2013265920\t1\t21\t/' $sheets/printed.sheet)
 # Of twenty, the totals of two changed: their folds are of others.
 expect_last 1 'covered: 18 of 20 items
 not covered: item 9, refused by check 11: an item does not hold
@@ -72,7 +73,7 @@ not covered: item 19, refused by check 11: an item does not hold' \
 # Two rows of which row 1 is false: the sheet's r = 0 gives it no weight.
 expect_last 1 'covered: 0 of 1 items
 not covered: item 0, refused by check 11: an item does not hold' \
-    <(printf '%s\n' 'size 1 2 2' 'a 0 2 1' 'a 1 2 1' 'b 0 3 1' 'b 1 2 1' 'c 0 0 1' 'c 1 1 1' "item 0 0 6 5 $(printf '%064d' 0)" 'wit 2 3' 'end 1' | tr ' ' '\t')
+    <(printf '%s\n' 'size 1 3 2' 'a 0 3 1' 'a 1 3 1' 'b 0 4 1' 'b 1 3 1' 'c 0 1 1' 'c 1 2 1' "item 0 0 1 6 5 $(printf '%064d' 0)" 'wit 2 3' 'end 1' | tr ' ' '\t')
 echo "examples of the crate: $runs runs as expected"
 
 # ---- The crate's pages: no warning, and each link leads to a page

@@ -1,22 +1,22 @@
-/* The claim w0 * w1 = x0: casts x0 = 6 with the witness (2, 3) to an item, and decides it. */
+/* The claim w0 * w1 = x1: casts x = (1, 6) with the witness (2, 3) to an item, and decides it. */
 #include <inttypes.h>
 #include <lomvuze.h>
 #include <stdio.h>
 
 int main(void) {
-  /* One row: entries (row, column, value) of A, B and C. Column 0 is x0, columns 1 and 2 are w0 and w1. */
-  const uint8_t a[12] = {0, 0, 0, 0, 1, 0, 0, 0, 1};
-  const uint8_t b[12] = {0, 0, 0, 0, 2, 0, 0, 0, 1};
-  const uint8_t c[12] = {0, 0, 0, 0, 0, 0, 0, 0, 1};
-  const uint8_t x[4] = {6};
+  /* One row: entries (row, column, value) of A, B and C. The columns are x0, which is 1, x1, w0 and w1. */
+  const uint8_t a[12] = {0, 0, 0, 0, 2, 0, 0, 0, 1};
+  const uint8_t b[12] = {0, 0, 0, 0, 3, 0, 0, 0, 1};
+  const uint8_t c[12] = {0, 0, 0, 0, 1, 0, 0, 0, 1};
+  const uint8_t x[8] = {1, 0, 0, 0, 6};
   const uint8_t w[8] = {2, 0, 0, 0, 3};
-  uint8_t item[LOMVUZE_ITEM_BYTES(0, 1)];
+  uint8_t item[LOMVUZE_ITEM_BYTES(0, 2)];
   /* m = 0: r is empty. */
-  uint32_t answer = lomvuze_cast(0, 1, 2, LOMVUZE_BUILT_IN_POINTS, a, sizeof a, b, sizeof b, c, sizeof c, LOMVUZE_EMPTY,
+  uint32_t answer = lomvuze_cast(0, 2, 2, LOMVUZE_BUILT_IN_POINTS, a, sizeof a, b, sizeof b, c, sizeof c, LOMVUZE_EMPTY,
                                  x, sizeof x, w, sizeof w, item, sizeof item);
   printf("cast %" PRIu32 ": %s\n", answer, lomvuze_strerror(answer));
   if (answer != LOMVUZE_ACCEPTED) return 1;
-  answer = lomvuze_decide(0, 1, 2, LOMVUZE_BUILT_IN_POINTS, a, sizeof a, b, sizeof b, c, sizeof c,
+  answer = lomvuze_decide(0, 2, 2, LOMVUZE_BUILT_IN_POINTS, a, sizeof a, b, sizeof b, c, sizeof c,
                           item, sizeof item, w, sizeof w);
   printf("decide %" PRIu32 ": %s\n", answer, lomvuze_strerror(answer));
   puts(answer == LOMVUZE_ACCEPTED ? "the verdict covers this one item" : "no item is covered");

@@ -13,6 +13,9 @@ mod buffers;
 #[path = "edges/contents.rs"]
 mod contents;
 
+#[path = "edges/leading_one.rs"]
+mod leading_one;
+
 #[path = "edges/leaves.rs"]
 mod leaves;
 
@@ -38,7 +41,7 @@ fn written_buffers() {
     assert_eq!(all.code[16..20], bytes(&[P - 1]));
     assert_eq!(all.item[ITEM - 32..], all.item_in[ITEM - 32..]);
     assert_eq!(all.quotient, bytes(&[4]));
-    assert_eq!(all.item[..8], bytes(&[8, 34]));
+    assert_eq!(all.item[..12], bytes(&[8, 1, 34]));
     assert_eq!(all.witness, bytes(&[6, 7]));
     assert_eq!(all.openings[..4], bytes(&[5]));
     assert_eq!(all.ordered, all.openings_in);

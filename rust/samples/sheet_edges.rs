@@ -7,6 +7,10 @@ use lomvuze_reference::sheet::{write, Pair, Reading, Sheet, MOST_BYTES};
 use lomvuze_samples::sheet::damage::{damaged, failing, junk};
 use lomvuze_samples::sheet::{accepted, of_length, Buffers, Shape, GREATEST};
 use lomvuze_samples::Random;
+use std::collections::BTreeMap;
+
+#[path = "sheet_edges/leading_one.rs"]
+mod leading_one;
 
 /// The answer to a sheet, and what it leaves in buffers that fit. A refusal writes nothing, its result has no
 /// sizes and counts, and the listing has its number alone.
@@ -39,13 +43,13 @@ fn is_read(says: &Sheet, text: &[u8]) {
 // ---- The sheet that the scope paper prints
 
 const PRINTED: &str = "\
-size→0→1→2
-a→0→1→1
-b→0→2→1
-c→0→0→1
-item→0→6→0..0
+size→0→2→2
+a→0→2→1
+b→0→3→1
+c→0→1→1
+item→0→1→6→0..0
 wit→2→3
-item→0→21→0..0
+item→0→1→21→0..0
 wit→4→5
 end→2
 ";
@@ -56,12 +60,12 @@ fn text(sheet: &str) -> Vec<u8> {
 }
 
 fn printed() -> Sheet {
-    let pair = |x: u32, w: [u32; 2]| Pair { numbers: vec![0, x], root: [0; 32], witness: w.to_vec() };
+    let pair = |x: u32, w: [u32; 2]| Pair { numbers: vec![0, 1, x], root: [0; 32], witness: w.to_vec() };
     Sheet {
-        size: [0, 1, 2],
-        a: vec![[0, 1, 1]],
-        b: vec![[0, 2, 1]],
-        c: vec![[0, 0, 1]],
+        size: [0, 2, 2],
+        a: vec![[0, 2, 1]],
+        b: vec![[0, 3, 1]],
+        c: vec![[0, 1, 1]],
         pairs: vec![pair(6, [2, 3]), pair(21, [4, 5])],
         end: 2,
     }
@@ -133,7 +137,7 @@ fn keywords() {
         ("a→", &["A→", "aa→", "d→", "→", "a →", " a→", "a", "end→", "wit→"]),
         ("b→", &["B→", "ab→", "d→", "→", "b", "size→", "item→"]),
         ("c→", &["C→", "cc→", "d→", "→", "c", "a→", "item→"]),
-        ("item→0→6→", &["ite→0→6→", "items→0→6→", "Item→0→6→", "→0→6→", "item0→6→", "c→0→6→"]),
+        ("item→0→1→6→", &["ite→0→1→6→", "items→0→1→6→", "Item→0→1→6→", "→0→1→6→", "item0→1→6→", "c→0→1→6→"]),
         ("wit→2→", &["wi→2→", "with→2→", "wiT→2→", "→2→", "wit2→", "item→2→"]),
         ("end→", &["en→", "ends→", "End→", "enb→", "→", "end", "end ", "wit→"]),
     ] {
@@ -149,13 +153,14 @@ fn numbers() {
     let spelled =
         ["", "03", "00", "+3", "-3", " 3", "3 ", "3\r", "3\0", "0x3", "3a", "a", "/", ":", "٣", "3.0"];
     for number in [&outside[..], &spelled].concat() {
-        assert_eq!(changed("size→0→1→2", &format!("size→{number}→1→2")), 1, "{number}");
-        assert_eq!(changed("size→0→1→2", &format!("size→0→1→{number}")), 1, "{number}");
-        assert_eq!(changed("a→0→1→1", &format!("a→{number}→1→1")), 1, "{number}");
-        assert_eq!(changed("b→0→2→1", &format!("b→0→{number}→1")), 1, "{number}");
-        assert_eq!(changed("c→0→0→1", &format!("c→0→0→{number}")), 1, "{number}");
-        assert_eq!(changed("item→0→6", &format!("item→{number}→6")), 1, "{number}");
-        assert_eq!(changed("item→0→6", &format!("item→0→{number}")), 1, "{number}");
+        assert_eq!(changed("size→0→2→2", &format!("size→{number}→2→2")), 1, "{number}");
+        assert_eq!(changed("size→0→2→2", &format!("size→0→2→{number}")), 1, "{number}");
+        assert_eq!(changed("a→0→2→1", &format!("a→{number}→2→1")), 1, "{number}");
+        assert_eq!(changed("b→0→3→1", &format!("b→0→{number}→1")), 1, "{number}");
+        assert_eq!(changed("c→0→1→1", &format!("c→0→1→{number}")), 1, "{number}");
+        assert_eq!(changed("item→0→1→6", &format!("item→{number}→1→6")), 1, "{number}");
+        assert_eq!(changed("item→0→1→6", &format!("item→0→{number}→6")), 1, "{number}");
+        assert_eq!(changed("item→0→1→6", &format!("item→0→1→{number}")), 1, "{number}");
         assert_eq!(changed("wit→4→5", &format!("wit→{number}→5")), 1, "{number}");
         assert_eq!(changed("wit→4→5", &format!("wit→4→{number}")), 1, "{number}");
         assert_eq!(changed("end→2", &format!("end→{number}")), 1, "{number}");
@@ -165,21 +170,22 @@ fn numbers() {
 /// The greatest number keeps the line rules, wherever it stands.
 #[test]
 fn the_greatest_number() {
-    assert_eq!(changed("size→0→1→2", "size→4294967295→1→2"), 2);
-    assert_eq!(changed("size→0→1→2", "size→0→4294967295→2"), 2);
-    assert_eq!(changed("size→0→1→2", "size→0→1→4294967295"), 2);
+    assert_eq!(changed("size→0→2→2", "size→4294967295→2→2"), 2);
+    assert_eq!(changed("size→0→2→2", "size→0→4294967295→2"), 2);
+    assert_eq!(changed("size→0→2→2", "size→0→2→4294967295"), 2);
     assert_eq!(changed("end→2", "end→4294967295"), 2);
-    assert_eq!(changed("a→0→1→1", "a→0→1→4294967295"), 3);
-    assert_eq!(changed("item→0→6", "item→4294967295→6"), 3);
-    assert_eq!(changed("item→0→6", "item→0→4294967295"), 3);
+    assert_eq!(changed("a→0→2→1", "a→0→2→4294967295"), 3);
+    assert_eq!(changed("item→0→1→6", "item→4294967295→1→6"), 3);
+    assert_eq!(changed("item→0→1→6", "item→0→4294967295→6"), 3);
+    assert_eq!(changed("item→0→1→6", "item→0→1→4294967295"), 3);
     assert_eq!(changed("wit→4→5", "wit→4→4294967295"), 3);
-    assert_eq!(changed("a→0→1→1", "a→4294967295→1→1"), 4);
-    assert_eq!(changed("a→0→1→1", "a→0→4294967295→1"), 4);
+    assert_eq!(changed("a→0→2→1", "a→4294967295→2→1"), 4);
+    assert_eq!(changed("a→0→2→1", "a→0→4294967295→1"), 4);
 }
 
 #[test]
 fn counts_of_fields() {
-    for line in ["size→0→1→2", "a→0→1→1", "b→0→2→1", "c→0→0→1", "end→2"] {
+    for line in ["size→0→2→2", "a→0→2→1", "b→0→3→1", "c→0→1→1", "end→2"] {
         let (fewer, _) = line.rsplit_once('→').unwrap();
         let (keyword, _) = line.split_once('→').unwrap();
         for other in [fewer, keyword, &format!("{line}→1"), &format!("{line}→"), &line.replacen('→', "→→", 1)]
@@ -187,12 +193,12 @@ fn counts_of_fields() {
             assert_eq!(changed(line, other), 1, "{other}");
         }
     }
-    let item = "item→0→6→0..0";
-    for other in ["item", "item→", "item→0..0", "item→→0..0", "item→0→6", "item→0→6→", "item→0→→6→0..0"]
+    let item = "item→0→1→6→0..0";
+    for other in ["item", "item→", "item→0..0", "item→→0..0", "item→0→1→6", "item→0→1→6→", "item→0→→6→0..0"]
     {
         assert_eq!(changed(item, other), 1, "{other}");
     }
-    for other in ["item→0→6→0..0→", "item→0→6→0..0→1", "item→0→0..0→6", "item→0→6→0..0→0..0"]
+    for other in ["item→0→1→6→0..0→", "item→0→1→6→0..0→1", "item→0→0..0→6", "item→0→1→6→0..0→0..0"]
     {
         assert_eq!(changed(item, other), 1, "{other}");
     }
@@ -203,7 +209,8 @@ fn counts_of_fields() {
     // A count that is wrong beyond that is a matter of check 2.
     for (line, other) in [
         (item, "item→0→0..0"),
-        (item, "item→0→6→1→0..0"),
+        (item, "item→0→1→0..0"),
+        (item, "item→0→1→6→1→0..0"),
         ("wit→4→5", "wit→4"),
         ("wit→4→5", "wit→45"),
         ("wit→4→5", "wit→4→5→6"),
@@ -253,7 +260,7 @@ fn order_of_lines() {
             assert_eq!(sheet(&more), 1, "{line:?} before line {at}");
         }
     }
-    for more in ["e", "\t", "\0", "end→2", "size→0→1→2", PRINTED] {
+    for more in ["e", "\t", "\0", "end→2", "size→0→2→2", PRINTED] {
         assert_eq!(answer(&text(&(PRINTED.to_string() + more))), 1, "{more:?} behind the end");
     }
 }
@@ -292,9 +299,10 @@ fn greatest_length() {
 
 // ---- Check 2
 
-/// A sheet of these sizes with all elements 0, whatever the sizes are.
+/// A sheet of these sizes, whatever they are, with first inputs 1 and all other elements 0.
 fn zeros(m: u32, n: u32, k: u32, pairs: usize) -> Sheet {
-    let pair = Pair { numbers: vec![0; (1 + m + n) as usize], root: [7; 32], witness: vec![0; k as usize] };
+    let numbers = (0..1 + m + n).map(|i| (i == 1 + m) as u32).collect();
+    let pair = Pair { numbers, root: [7; 32], witness: vec![0; k as usize] };
     Sheet { size: [m, n, k], a: vec![], b: vec![], c: vec![], pairs: vec![pair; pairs], end: pairs as u32 }
 }
 
@@ -317,13 +325,13 @@ fn sizes() {
         assert_eq!(answer(&write(&zeros(0, 1, k, 1))), if permitted { 0 } else { 2 }, "k = {k}");
     }
     // Sizes whose low bytes are permitted.
-    for size in [[256, 1, 2], [0, 257, 2], [0, 1, 258], [1 << 31, 1, 2], [0, 65537, 2], [0, 1, 65538]] {
+    for size in [[256, 2, 2], [0, 258, 2], [0, 2, 258], [1 << 31, 2, 2], [0, 65538, 2], [0, 2, 65538]] {
         assert_eq!(answer(&write(&Sheet { size, ..printed() })), 2, "{size:?}");
     }
     // 1 + m + n is the count of the items' numbers modulo 2^32 only.
-    assert_eq!(changed("size→0→1→2", "size→4294967295→2→2"), 2);
-    assert_eq!(changed("size→0→1→2", "size→2→4294967295→2"), 2);
-    assert_eq!(changed("size→0→1→2", "size→0→1→0"), 2);
+    assert_eq!(changed("size→0→2→2", "size→4294967295→3→2"), 2);
+    assert_eq!(changed("size→0→2→2", "size→3→4294967295→2"), 2);
+    assert_eq!(changed("size→0→2→2", "size→0→2→0"), 2);
 }
 
 #[test]
@@ -357,7 +365,7 @@ fn counts_of_pairs() {
         assert_eq!(answer(&write(&Sheet { end, ..zeros(0, 1, 2, pairs) })), 2, "{pairs} pairs, end {end}");
     }
     assert_eq!(changed("end→2", "end→1"), 2);
-    assert_eq!(answer(&text("size→0→1→2\nend→0\n")), 2);
+    assert_eq!(answer(&text("size→0→2→2\nend→0\n")), 2);
 }
 
 #[test]
@@ -415,18 +423,18 @@ fn lengths_of_buffers() {
     }
 }
 
-// ---- Checks 3 and 4
+// ---- Checks 3 and 4 (13 has a file of its own)
 
 #[test]
 fn elements() {
     for (line, other) in [
-        ("a→0→1→1", "a→0→1→E"),
-        ("b→0→2→1", "b→0→2→E"),
-        ("c→0→0→1", "c→0→0→E"),
-        ("item→0→6", "item→E→6"),
-        ("item→0→6", "item→0→E"),
-        ("item→0→21", "item→E→21"),
-        ("item→0→21", "item→0→E"),
+        ("a→0→2→1", "a→0→2→E"),
+        ("b→0→3→1", "b→0→3→E"),
+        ("c→0→1→1", "c→0→1→E"),
+        ("item→0→1→6", "item→E→1→6"),
+        ("item→0→1→6", "item→0→1→E"),
+        ("item→0→1→21", "item→E→1→21"),
+        ("item→0→1→21", "item→0→1→E"),
         ("wit→2→3", "wit→E→3"),
         ("wit→2→3", "wit→2→E"),
         ("wit→4→5", "wit→E→5"),
@@ -435,10 +443,10 @@ fn elements() {
         assert_eq!(changed(line, &other.replace('E', "2013265920")), 0, "{other}");
         assert_eq!(changed(line, &other.replace('E', "2013265921")), 3, "{other}");
     }
-    // Every number of every pair, at the greatest sizes.
+    // Every number of every pair, at the greatest sizes. The first input is number 7.
     let pair = zeros(6, 64, 64, 1).pairs[0].clone();
     for i in 0..1 + 6 + 64 {
-        for (number, expected) in [(P - 1, 0), (P, 3)] {
+        for (number, expected) in [(P - 1, if i == 7 { 13 } else { 0 }), (P, 3)] {
             let mut says = zeros(6, 64, 64, 3);
             says.pairs[i % 3].numbers[i] = number;
             assert_eq!(answer(&write(&says)), expected, "number {i}");
@@ -489,7 +497,7 @@ fn order_of_checks() {
         let sheet = changes.iter().fold(PRINTED.to_string(), |sheet, (from, to)| sheet.replace(from, to));
         answer(&text(&sheet))
     };
-    let (order, element) = (("a→0→1→1", "a→1→1→1"), ("wit→4→5", "wit→4→2013265921"));
+    let (order, element) = (("a→0→2→1", "a→1→2→1"), ("wit→4→5", "wit→4→2013265921"));
     let (count, rule) = (("end→2", "end→3"), ("end→", "end→0"));
     assert_eq!(with(&[order]), 4);
     assert_eq!(with(&[order, element]), 3);
@@ -498,11 +506,11 @@ fn order_of_checks() {
     assert_eq!(with(&[order, count]), 2);
     assert_eq!(with(&[order, rule]), 1);
     assert_eq!(with(&[element, rule]), 1);
-    assert_eq!(with(&[("size→0→1→2", "size→7→1→2"), rule]), 1);
-    assert_eq!(with(&[("size→0→1→2", "size→7→1→2"), order, element]), 2);
+    assert_eq!(with(&[("size→0→2→2", "size→7→2→2"), rule]), 1);
+    assert_eq!(with(&[("size→0→2→2", "size→7→2→2"), order, element]), 2);
     // An early value beside a late place, and an early size beside a late element.
-    assert_eq!(with(&[("a→0→1→1", "a→0→1→2013265921"), ("c→0→0→1", "c→0→3→1")]), 3);
-    assert_eq!(with(&[("a→0→1→1", "a→9→1→2013265921")]), 3);
+    assert_eq!(with(&[("a→0→2→1", "a→0→2→2013265921"), ("c→0→1→1", "c→0→4→1")]), 3);
+    assert_eq!(with(&[("a→0→2→1", "a→9→2→2013265921")]), 3);
 }
 
 fn shapes(random: &mut Random, small: usize, any: usize) -> Vec<Shape> {
@@ -526,25 +534,30 @@ fn failing_checks() {
     let mut random = Random::new(3);
     for shape in shapes(&mut random, 1000, 50) {
         let says = accepted(&mut random, &shape);
-        for checks in [&[1][..], &[2], &[3], &[4], &[1, 2, 3, 4], &[2, 3, 4], &[3, 4]] {
-            let text = failing(&mut random, &says, checks);
-            let expected = if text.len() > MOST_BYTES { 1 } else { checks[0] };
-            assert_eq!(answer(&text), expected, "{checks:?}: {}", text.escape_ascii());
+        let all = [1, 2, 3, 4, 13];
+        for i in 0..all.len() {
+            for checks in [&all[i..=i], &all[i..], &[all[i], 13]] {
+                let text = failing(&mut random, &says, checks);
+                let expected = if text.len() > MOST_BYTES { 1 } else { checks[0] };
+                assert_eq!(answer(&text), expected, "{checks:?}: {}", text.escape_ascii());
+            }
         }
     }
 }
 
-/// Whatever the text is, the answer is one of the five, and a refusal writes nothing.
+/// Whatever the text is, the answer is one of the six, and a refusal writes nothing.
 #[test]
 fn damaged_sheets() {
     let mut random = Random::new(4);
-    let mut answers = [0; 5];
+    let mut answers = BTreeMap::new();
     for shape in shapes(&mut random, 1000, 10) {
         let says = accepted(&mut random, &shape);
-        for _ in 0..5 {
-            answers[answer(&damaged(&mut random, &says)) as usize] += 1;
+        let mut texts = vec![junk(&mut random)];
+        texts.extend((0..5).map(|_| damaged(&mut random, &says)));
+        for text in texts {
+            *answers.entry(answer(&text)).or_insert(0) += 1;
         }
-        answers[answer(&junk(&mut random)) as usize] += 1;
     }
-    assert!(answers.iter().all(|count| *count >= 100), "{answers:?}");
+    assert!(answers.keys().eq(&[0, 1, 2, 3, 4, 13]), "{answers:?}");
+    assert!(answers.values().all(|count| *count >= 100), "{answers:?}");
 }

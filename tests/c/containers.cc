@@ -1,27 +1,19 @@
 /*
- * lomvuze.hpp: the whole chain over containers, two items of w0 * w1 = x0, over the built-in points and over others, with empty vectors whose pointer
+ * lomvuze.hpp: the whole chain over containers, two items of w0 * w1 = x1, over the built-in points and over others, with empty vectors whose pointer
  * is null. What lomvuze.h writes for the same arguments is the same. Prints one line; the exit status is 1 where something fails.
  */
 #include "lomvuze.hpp"
 
 #include <array>
-#include <cstdio>
 #include <string>
 #include <vector>
 #if __cplusplus >= 202002L
 #include <span>
 #endif
 
+#include "require.h"
+
 using bytes = std::vector<uint8_t>;
-
-static bool failed = false;
-
-static void require(const char *what, bool holds) {
-  if (holds) return;
-  std::printf("FAILED: %s\n", what);
-  failed = true;
-}
-#define REQUIRE(condition) require(#condition, condition)
 
 /* ---- What an `in` and an `out` may be made of */
 
@@ -50,18 +42,20 @@ static bytes operator+(bytes first, const bytes &second) {
 }
 
 static void chain(const bytes &points) {
-  const bytes a = numbers({0, 1, 1}), b = numbers({0, 2, 1}), c = numbers({0, 0, 1}), r;
+  const bytes a = numbers({0, 2, 1}), b = numbers({0, 3, 1}), c = numbers({0, 1, 1}), r;
   const bytes w0 = numbers({2, 3}), w1 = numbers({4, 5}), wits = w0 + w1, positions = numbers({7, 0, 4});
-  bytes item0(LOMVUZE_ITEM_BYTES(0, 1)), item1(item0.size()), item(item0.size()), w(w0.size());
+  bytes item0(LOMVUZE_ITEM_BYTES(0, 2)), item1(item0.size()), item(item0.size()), w(w0.size());
   bytes quotient(LOMVUZE_QUOTIENT_BYTES(0, 2)), same(quotient.size());
   REQUIRE(r.data() == nullptr);
-  REQUIRE(lomvuze::cast(0, 1, 2, points, a, b, c, r, numbers({6}), w0, item0) == LOMVUZE_ACCEPTED);
-  REQUIRE(lomvuze::cast(0, 1, 2, points, a, b, c, {}, numbers({20}), w1, item1) == LOMVUZE_ACCEPTED);
-  REQUIRE(lomvuze::cast(0, 1, 2, points, a, b, c, r, numbers({21}), w1, item) == LOMVUZE_CLAIM);
+  REQUIRE(lomvuze::cast(0, 2, 2, points, a, b, c, r, numbers({1, 6}), w0, item0) == LOMVUZE_ACCEPTED);
+  REQUIRE(lomvuze::cast(0, 2, 2, points, a, b, c, {}, numbers({1, 20}), w1, item1) == LOMVUZE_ACCEPTED);
+  REQUIRE(lomvuze::cast(0, 2, 2, points, a, b, c, r, numbers({1, 21}), w1, item) == LOMVUZE_CLAIM);
+  REQUIRE(lomvuze::cast(0, 2, 2, points, a, b, c, r, numbers({2, 20}), w1, item) == LOMVUZE_FIRST_INPUT);
   const bytes items = item0 + item1;
-  REQUIRE(lomvuze::quotient(0, 1, 2, 2, points, a, b, c, items, wits, same) == LOMVUZE_ACCEPTED);
-  REQUIRE(lomvuze::fold(0, 1, 2, 2, 2, points, a, b, c, items, wits, quotient, item, w) == LOMVUZE_ACCEPTED);
+  REQUIRE(lomvuze::quotient(0, 2, 2, 2, points, a, b, c, items, wits, same) == LOMVUZE_ACCEPTED);
+  REQUIRE(lomvuze::fold(0, 2, 2, 2, 2, points, a, b, c, items, wits, quotient, item, w) == LOMVUZE_ACCEPTED);
   REQUIRE(quotient == numbers({4}) && quotient == same && w == numbers({6, 7}));
+  REQUIRE(bytes(item.begin(), item.begin() + 12) == numbers({8, 1, 34}));
 
   bytes opened, openings(LOMVUZE_ALL_OPENINGS_BYTES(2, 2, 3));
   for (const bytes &witness : {w0, w1, w}) {
@@ -70,11 +64,11 @@ static void chain(const bytes &points) {
     opened = opened + one;
   }
   REQUIRE(lomvuze::interleave(2, 2, 3, opened, openings) == LOMVUZE_ACCEPTED);
-  REQUIRE(lomvuze::verify(0, 1, 2, 2, 3, 2, items, positions, quotient, item, openings) == LOMVUZE_ACCEPTED);
-  REQUIRE(lomvuze::decide(0, 1, 2, points, a, b, c, item, w) == LOMVUZE_ACCEPTED);
-  REQUIRE(lomvuze::decide(0, 1, 2, points, a, b, c, item0, w) == LOMVUZE_ROOT);
-  REQUIRE(lomvuze::decide(0, 1, 2, points, b, a, a, item, w) == LOMVUZE_CLAIM);
-  REQUIRE(lomvuze::decide(0, 1, 2, numbers({1, 2, 3, 4, 5, 6, 7, 8}), a, b, c, item, w) == LOMVUZE_ROOT);
+  REQUIRE(lomvuze::verify(0, 2, 2, 2, 3, 2, items, positions, quotient, item, openings) == LOMVUZE_ACCEPTED);
+  REQUIRE(lomvuze::decide(0, 2, 2, points, a, b, c, item, w) == LOMVUZE_ACCEPTED);
+  REQUIRE(lomvuze::decide(0, 2, 2, points, a, b, c, item0, w) == LOMVUZE_ROOT);
+  REQUIRE(lomvuze::decide(0, 2, 2, points, b, a, a, item, w) == LOMVUZE_CLAIM);
+  REQUIRE(lomvuze::decide(0, 2, 2, numbers({1, 2, 3, 4, 5, 6, 7, 8}), a, b, c, item, w) == LOMVUZE_ROOT);
 }
 
 /* The codeword of (0, 1) is the list of points: the built-in ones, lent by hand, give what an empty buffer gives. Then what is refused. */
@@ -93,7 +87,7 @@ static void lent_points() {
 
 /* One item without a circuit: points, entries, r and quotient are empty, and so are the vectors' pointers null. */
 static void empty() {
-  const bytes none, x = numbers({6}), w = numbers({2, 3});
+  const bytes none, x = numbers({1}), w = numbers({2, 3});
   bytes quotient, item(LOMVUZE_ITEM_BYTES(0, 1)), new_item(item.size()), new_w(w.size());
   REQUIRE(none.data() == nullptr && quotient.data() == nullptr);
   REQUIRE(lomvuze::in(none).data() != nullptr && lomvuze::out(quotient).data() != nullptr);
@@ -114,7 +108,7 @@ static void other_kinds() {
   REQUIRE(lomvuze_encode(2, LOMVUZE_BUILT_IN_POINTS, w.data(), w.size(), code, sizeof code, same.data(), same.size()) == LOMVUZE_ACCEPTED);
   REQUIRE(root == same);
 
-  const std::string zeros(64, '0'), sheet = "size\t0\t1\t2\nitem\t0\t6\t" + zeros + "\nwit\t2\t3\nend\t1\n";
+  const std::string zeros(64, '0'), sheet = "size\t0\t2\t2\nitem\t0\t1\t6\t" + zeros + "\nwit\t2\t3\nend\t1\n";
   bytes entries[3], items(LOMVUZE_SHEET_ITEMS_BYTES), wits(LOMVUZE_SHEET_WITNESSES_BYTES);
   for (bytes &list : entries) list.resize(LOMVUZE_SHEET_ENTRIES_BYTES);
   uint32_t sizes[7];
@@ -132,6 +126,6 @@ int main() {
   lent_points();
   empty();
   other_kinds();
-  if (!failed) std::printf("containers: the chain, points, empty ones and other kinds as expected\n");
+  if (!failed) printf("containers: the chain, points, empty ones and other kinds as expected\n");
   return failed ? 1 : 0;
 }

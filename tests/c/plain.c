@@ -2,26 +2,17 @@
  * What the header has beside the calls: the texts of answers, the version, and empty buffers. A call gets them from LOMVUZE_EMPTY, from
  * lomvuze_in and lomvuze_out over null, and as null itself: what the library promises nothing about, and as it is compiled does no harm.
  */
-#include <stdio.h>
 #include <string.h>
 
 #include "lomvuze.h"
-
-static int failed;
-
-static void require(const char *what, int holds) {
-  if (holds) return;
-  printf("FAILED: %s\n", what);
-  failed = 1;
-}
-#define REQUIRE(condition) require(#condition, condition)
+#include "require.h"
 
 #define IN_NULL lomvuze_in(NULL, 0), 0
 #define OUT_NULL lomvuze_out(NULL, 0), 0
 #define NONE NULL, 0
 
 /* m = 0, n = 1, k = 2, l = 1: a circuit without entries, where every item holds. */
-static const uint8_t x[LOMVUZE_X_BYTES(1)] = {6}, w[LOMVUZE_WITNESS_BYTES(2)] = {2, 0, 0, 0, 3}, position[LOMVUZE_POSITIONS_BYTES(1)] = {7};
+static const uint8_t x[LOMVUZE_X_BYTES(1)] = {1}, w[LOMVUZE_WITNESS_BYTES(2)] = {2, 0, 0, 0, 3}, position[LOMVUZE_POSITIONS_BYTES(1)] = {7};
 static uint8_t item[LOMVUZE_ITEM_BYTES(0, 1)], new_item[sizeof item], new_w[sizeof w], opened[LOMVUZE_ALL_OPENINGS_BYTES(2, 1, 1)];
 static uint8_t openings[sizeof opened], entries[LOMVUZE_SHEET_ENTRIES_BYTES], items[LOMVUZE_SHEET_ITEMS_BYTES];
 static uint8_t wits[LOMVUZE_SHEET_WITNESSES_BYTES], other[2][sizeof entries];
@@ -79,9 +70,10 @@ int main(void) {
   REQUIRE(strcmp(lomvuze_strerror(LOMVUZE_ACCEPTED), "accepted") == 0);
   REQUIRE(strcmp(lomvuze_strerror(LOMVUZE_CLAIM), "an item does not hold") == 0);
   REQUIRE(strcmp(lomvuze_strerror(LOMVUZE_POINTS), "a point repeats another, or is p or more") == 0);
-  for (uint32_t i = 0; i <= LOMVUZE_POINTS; i++)
+  REQUIRE(strcmp(lomvuze_strerror(LOMVUZE_FIRST_INPUT), "an item's first input is not 1") == 0);
+  for (uint32_t i = 0; i <= LOMVUZE_FIRST_INPUT; i++)
     for (uint32_t j = 0; j < 20; j++) REQUIRE((i == j) == (strcmp(lomvuze_strerror(i), lomvuze_strerror(j)) == 0));
-  for (uint32_t i = LOMVUZE_POINTS + 1; i != 0; i *= 2) REQUIRE(strcmp(lomvuze_strerror(i), "unknown answer") == 0);
+  for (uint32_t i = LOMVUZE_FIRST_INPUT + 1; i != 0; i *= 2) REQUIRE(strcmp(lomvuze_strerror(i), "unknown answer") == 0);
 
   char version[32];
   snprintf(version, sizeof version, "%d.%d.%d", LOMVUZE_VERSION_MAJOR, LOMVUZE_VERSION_MINOR, LOMVUZE_VERSION_PATCH);

@@ -4,18 +4,21 @@ use mathlib.Core.Path.{_≡_, refl, sym, _∙_, ap}
 use mathlib.Core.Logic.{_≢_, _⊎_, inl, inr}
 use mathlib.Core.Bool.{Bool, true, false}
 use mathlib.Core.List.{[], _∷_}
-use Prim.Native.Nat.{ℕ, zero, suc, _+_, _≤_, _<_}
+use Prim.Native.Nat.{ℕ, zero, suc, _+_, _-_, _≤_, _<_}
 use native.Mathlib.Omega.{arith}
 use native.Mathlib.Decide.{decLt}
 use lib.Dec.{T, eqb, eqb→eq, eqb-refl}
 use Rattle.algebra.specs.Ring.{CommRing, Field}
-use Rattle.algebra.specs.Lists.{Differ}
+use Rattle.algebra.specs.Lists.{All, Differ, build}
 use Rattle.algebra.specs.Polynomial.{PolyFn}
+use Rattle.algebra.specs.Sums.{sumTo}
 use Rattle.algebra.specs.Lagrange.{factor, basis, combine}
 use Rattle.algebra.proofs.RingLaws.{eq-of-sub}
 use Rattle.algebra.proofs.Solver.{x₀, x₁, x₂, _:*_, _:-_, num, ring-eq}
-use Rattle.algebra.proofs.SumLaws.{sumTo-single, prodTo-cong, prodTo-one, prodTo-zero}
+use Rattle.algebra.proofs.ListLaws.{length-build, distinct-differ, All-build}
+use Rattle.algebra.proofs.SumLaws.{sumTo-cong, sumTo-single, prodTo-cong, prodTo-one, prodTo-zero}
 use Rattle.algebra.proofs.PolynomialLaws.{total, PolyFn-const, PolyFn-id, PolyFn-sub, PolyFn-weaken, PolyFn-cong, PolyFn-scale, PolyFn-sumTo, PolyFn-prodTo}
+use Rattle.algebra.proofs.RootBound.{equal-everywhere}
 
 -- The two answers of a test for equality.
 eqb-split : (i j : ℕ) → ((eqb i j ≡ true) × (i ≡ j)) ⊎ ((eqb i j ≡ false) × (i ≢ j))
@@ -102,3 +105,13 @@ module _ (F : Field) where
     pub PolyFn-combine : (d : ℕ) (v : ℕ → K) → l ≤ suc d → PolyFn R d (combine F l node v)
     PolyFn-combine d v h = PolyFn-sumTo R d l (λ i x. basis F l node i x ⊗ v i)
         (λ i p. PolyFn-cong R (λ x. ring-eq R (basis F l node i x ∷ v i ∷ []) (x₀ :* x₁) (x₁ :* x₀) tt) (PolyFn-scale R (v i) (PolyFn-basis d i p h)))
+
+    -- The basis sums to 1: the combination of ones is 1 at l nodes, and of degree below l.
+    pub basis-sum : 0 < l → (x : K) → sumTo R l (λ i. basis F l node i x) ≡ 𝟙
+    basis-sum some x =
+        sumTo-cong R l (λ i. basis F l node i x) (λ i. basis F l node i x ⊗ 𝟙) (λ i p. sym (mul-one (basis F l node i x)))
+        ∙ equal-everywhere F (PolyFn-combine (l - 1) (λ i. 𝟙) (omega arith)) (PolyFn-const R 𝟙 (l - 1)) (build l node)
+        (omega (arith, length-build l node)) (distinct-differ l node different) at-nodes x
+      where
+        at-nodes : All (λ b. combine F l node (λ i. 𝟙) b ≡ 𝟙) (build l node)
+        at-nodes = All-build (λ b. combine F l node (λ i. 𝟙) b ≡ 𝟙) l node (λ j q. combine-at (λ i. 𝟙) j q)

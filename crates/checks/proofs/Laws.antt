@@ -1,4 +1,4 @@
--- The laws of a loop that tests f at 0, 1, .. and stops at the first number that fails (`every i f ≡ true` where i is next).
+-- The laws of a loop that tests f at 0, 1, .. and stops at the first number that fails (`every i f ≡ true` where i is next), or goes on.
 use mathlib.Core.Path.{_≡_, refl, sym, ap, ap₂, _∙_}
 use mathlib.Core.Bool.{Bool, true, false, not, _&&_, and-false}
 use Prim.Native.Nat.{ℕ, zero, suc, _+_, _*_, _%_, _^_, _≤_, _<_}
@@ -43,6 +43,14 @@ turn-fails n f i {r} l e h = every-fails n f i l (sym e ∙ not-true r h)
 
 pub turn-passes : (f : ℕ → Bool) (i : ℕ) {r : Bool} → every i f ≡ true → r ≡ f i → not r ≡ false → every (i + 1) f ≡ true
 turn-passes f i {r} t e h = every-more f i t (sym e ∙ not-false r h)
+
+-- A loop that goes on where a number fails, and keeps what it found so far: before the first turn it is true.
+pub joined-more : (f : ℕ → Bool) (i : ℕ) {b r : Bool} → b ≡ every i f → r ≡ f i → (b && r) ≡ every (i + 1) f
+unfolding every
+joined-more f i e h = rw add-one (ap₂ _&&_ e h)
+
+pub joined-all : (n : ℕ) (f : ℕ → Bool) (i : ℕ) {b : Bool} → i ≤ n → n ≤ i → b ≡ every i f → b ≡ every n f
+joined-all n f i l g e = let q : n ≡ i = omega arith in rw q e
 
 -- Tests that agree below n.
 pub every-cong : (n : ℕ) (f g : ℕ → Bool) → ((i : ℕ) → i < n → f i ≡ g i) → every n f ≡ every n g

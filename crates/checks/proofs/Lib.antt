@@ -2,6 +2,7 @@ pub mod Laws
 pub mod Fronts
 pub mod WitnessLaws
 pub mod ItemTests
+pub mod LeadingLaws
 pub mod ClaimLaws
 pub mod Members
 pub mod Listed

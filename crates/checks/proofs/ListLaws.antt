@@ -21,7 +21,7 @@ use Rattle.theory.proofs.Passed.{list-passes, list-below, passed-list}
 use Rattle.checks.proofs.Laws.{every-cong}
 use Rattle.checks.proofs.Members.{every-read}
 
--- The answer r of checks 3, 12 and 4 before others: a refusal is the answer of them all, and else the others decide.
+-- The answer r of checks 3, 12, 4 and 13 before others: a refusal is the answer of them all, and else the others decide.
 module _ (m n k l : ℕ) (points a b c items wits : List ℕ) {r : ℕ} (rest : List Check) (e : r ≡ answer (listChecks m n k l points a b c items wits)) where
   pub list-refuses : (r ≡ 0 → ⊥) → r ≡ answer (listChecks m n k l points a b c items wits ++ rest)
   list-refuses h = e ∙ sym (group-refused (listChecks m n k l points a b c items wits) rest (λ z. h (e ∙ z)))
@@ -49,23 +49,23 @@ module _ (m n k l : ℕ) (points a b c items wits : List ℕ) {size : ℕ} (e : 
       ap (λ (s : ℕ). every l (λ i. holds (circuit a b c) (readItem m n (part items (i * s) s)) (readWitness k wits i))) e
       ∙ every-read (holds (circuit a b c)) m n k l items wits
 
-  -- What they ask, after checks 2, 3, 12 and 4.
-  module _ (few : (m ≤ 6) × (n ≤ 64) × (isWitnessCount k ≡ true) × (length items ≡ l * itemSize m n) × (length wits ≡ l * (4 * k)) × (pointsFit k points ≡ true))
+  -- What they ask, after checks 2, 3, 12, 4 and 13.
+  module _ (few : (m ≤ 6) × (1 ≤ n) × (n ≤ 64) × (isWitnessCount k ≡ true) × (length items ≡ l * itemSize m n) × (length wits ≡ l * (4 * k)) × (pointsFit k points ≡ true))
       (passed : answer (listChecks m n k l points a b c items wits) ≡ 0) where
     items-long : length items ≡ l * size
-    items-long = few .3 ∙ ap (λ (s : ℕ). l * s) (sym e)
+    items-long = few .4 ∙ ap (λ (s : ℕ). l * s) (sym e)
 
     pub match-asked : {front : ℕ} → front ≡ itemFront m n
         → (isWitnessCount k ≡ true) × (front + 32 ≤ size) × (length items ≡ l * size) × (length wits ≡ l * (4 * k)) × (elementsBelow wits ≡ true) × (pointsFit k points ≡ true)
     match-asked h =
-        let t = list-below fp m n k l points a b c items wits (list-passes fp m n k l points a b c items wits passed) in
-        (few .2, omega arith, items-long, few .4, t .wits-below, few .5)
+        let t = list-below fp m n k l points a b c items wits (list-passes fp m n k l points a b c items wits passed .below) in
+        (few .3, omega arith, items-long, few .5, t .wits-below, few .6)
 
     pub hold-asked : ((m ≤ 6) × (n ≤ 64) × (k ≤ 64) × (itemFront m n ≤ size) × (length items ≡ l * size) × (length wits ≡ l * (4 * k)))
         × ((every l (λ i. itemBelow m n (part items (i * size) size)) ≡ true) × (circuitInOrder m n k a b c ≡ true))
     hold-asked =
         let s = list-passes fp m n k l points a b c items wits passed in
-        let t = list-below fp m n k l points a b c items wits s in (
-          (few .0, few .1, count-few k (few .2), omega arith, items-long, few .4),
+        let t = list-below fp m n k l points a b c items wits (s .below) in (
+          (few .0, few .2, count-few k (few .3), omega arith, items-long, few .5),
           (items-below-read m n l items e ∙ t .items-below, s .in-order),
         )

@@ -2,6 +2,7 @@
 pub mod claims;
 pub mod elements;
 pub mod item;
+pub mod leading;
 pub mod list;
 pub mod order;
 pub mod points;

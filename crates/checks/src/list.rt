@@ -9,6 +9,7 @@ ghost use Rattle.theory.specs.Sizes.{hasLength, pointsFit};
 ghost use Rattle.theory.specs.Fp.{itemSize, listFits, listBelow, listChecks, claimChecks};
 use crate::elements;
 use crate::item;
+use crate::leading;
 use crate::order;
 use crate::points;
 use crate::sizes;
@@ -64,7 +65,7 @@ fn below(
         & elements::elements_below(wits, l * k)
 }
 
-// Checks 3, 12 and 4, after check 2.
+// Checks 3, 12, 4 and 13, after check 2.
 pub fn verdict(
     m: usize,
     n: usize,
@@ -77,7 +78,7 @@ pub fn verdict(
     items: &[u8],
     wits: &[u8],
 ) -> u32
-    requires { ⌜ (m ≤ 6) × (n ≤ 64) × (isWitnessCount k ≡ true) × (length (now items) ≡ l * itemSize m n) × (length (now wits) ≡ l * (4 * k)) × (pointsFit k (now points) ≡ true) ⌝ }
+    requires { ⌜ (m ≤ 6) × (1 ≤ n) × (n ≤ 64) × (isWitnessCount k ≡ true) × (length (now items) ≡ l * itemSize m n) × (length (now wits) ≡ l * (4 * k)) × (pointsFit k (now points) ≡ true) ⌝ }
     ensures { λ r. ⌜ r ≡ answer (listChecks m n k l (now (points .entry)) (now (a .entry)) (now (b .entry)) (now (c .entry)) (now (items .entry)) (now (wits .entry))) ⌝ }
 {
     if !below(m, n, k, l, a, b, c, items, wits) {
@@ -89,10 +90,13 @@ pub fn verdict(
     if !order::circuit_in_order(m, n, k, a, b, c) {
         return 4;
     }
+    if !leading::items_leading_one(m, n, l, items) {
+        return 13;
+    }
     0
 }
 
-// Checks 10 and 11, after checks 3, 12 and 4.
+// Checks 10 and 11, after checks 3, 12, 4 and 13.
 pub fn claims(
     m: usize,
     n: usize,
@@ -105,7 +109,7 @@ pub fn claims(
     items: &[u8],
     wits: &[u8],
 ) -> u32
-    requires { ⌜ (m ≤ 6) × (n ≤ 64) × (isWitnessCount k ≡ true) × (length (now items) ≡ l * itemSize m n) × (length (now wits) ≡ l * (4 * k)) × (pointsFit k (now points) ≡ true) ⌝ }
+    requires { ⌜ (m ≤ 6) × (1 ≤ n) × (n ≤ 64) × (isWitnessCount k ≡ true) × (length (now items) ≡ l * itemSize m n) × (length (now wits) ≡ l * (4 * k)) × (pointsFit k (now points) ≡ true) ⌝ }
     requires { ⌜ answer (listChecks m n k l (now points) (now a) (now b) (now c) (now items) (now wits)) ≡ 0 ⌝ }
     ensures { λ r. ⌜ r ≡ answer (claimChecks m n k l (now (points .entry)) (now (a .entry)) (now (b .entry)) (now (c .entry)) (now (items .entry)) (now (wits .entry))) ⌝ }
 {

@@ -1,4 +1,4 @@
-// Casting: takes r as lent, sets e to 0 and works out the root. Checks 2, 3, 12, 4 and 11.
+// Casting: takes r as lent, sets e to 0 and works out the root. Checks 2, 3, 12, 4, 13 and 11.
 ghost use mathlib.Core.Path.{_≡_};
 ghost use mathlib.Core.Bool.{true, _&&_};
 ghost use mathlib.Core.List.{[], _∷_, _++_};
@@ -106,6 +106,9 @@ fn verdict(
     }
     if !checks::order::circuit_in_order(ms, ns, ks, a, b, c) {
         return 4;
+    }
+    if !checks::leading::leading_one(ns, x) {
+        return 13;
     }
     if !holds(ms, ns, ks, a, b, c, r, x, w) {
         return 11;

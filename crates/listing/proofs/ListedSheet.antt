@@ -99,7 +99,7 @@ module _ (s a b c items wits : List ℕ) (fit : buffersFit a b c items wits ≡ 
     unfolding readSheet
     front-wits = filled-front (bytesOf Wit ls) wits (zero-answer called z) read-wits (wits-long called z ∙ mul-left-comm 4 (r .pairs) (r .k))
 
-    -- Checks 3 and 4, between which the sheet passes 12.
+    -- Checks 3 and 4, between which the sheet passes 12; 13 stands behind them.
     items-below : itemsBelow (m ls) (n ls) (pairs ls) (bytesOf Item ls) ≡ true
     items-below =
         let circuit-below = circuitBelow (bytesOf EntryA ls) (bytesOf EntryB ls) (bytesOf EntryC ls) in

@@ -22,10 +22,10 @@ use Rattle.checks.proofs.Listed.{listed}
 -- ---- a list that passes check 2
 
 module _ (m n k l : ℕ) (points a b c items wits : List ℕ) (fits : listFits m n k l points a b c items wits ≡ true) where
-  pub list-asked : (m ≤ 6) × (n ≤ 64) × (isWitnessCount k ≡ true) × (length items ≡ l * itemSize m n) × (length wits ≡ l * (4 * k)) × (pointsFit k points ≡ true)
+  pub list-asked : (m ≤ 6) × (1 ≤ n) × (n ≤ 64) × (isWitnessCount k ≡ true) × (length items ≡ l * itemSize m n) × (length wits ≡ l * (4 * k)) × (pointsFit k points ≡ true)
   list-asked =
       let h = listed m n k l points a b c items wits fits in
-      (h .sizes .m-most, h .sizes .n-most, h .sizes .count, h .items-size, h .wits-size, h .points-fit)
+      (h .sizes .m-most, h .sizes .n-least, h .sizes .n-most, h .sizes .count, h .items-size, h .wits-size, h .points-fit)
 
   -- With a circuit in order it is what folding works with.
   list-fit : circuitInOrder m n k a b c ≡ true → Fits m n k l a b c items wits
@@ -74,6 +74,6 @@ module _ (m n k l challenge : ℕ) (points a b c items wits q item wit : List �
       let asked = list-asked m n k l points a b c items wits list in
       let outputs = each-true (hasLength q (4 * quotientSize m l)) (hasLength item (itemSize m n) ∷ hasLength wit (4 * k) ∷ [])
       (and-right (listFits m n k l points a b c items wits) (foldOutputsFit m n k l q item wit) (t .fits)) in (
-        (list-fit m n k l points a b c items wits list (t .list .in-order), asked .2, ltb-true challenge p (and-right (leb l challenge) (ltb challenge p) (t .permitted)), asked .5),
+        (list-fit m n k l points a b c items wits list (t .list .in-order), asked .3, ltb-true challenge p (and-right (leb l challenge) (ltb challenge p) (t .permitted)), asked .6),
         (eqb-true (length q) (4 * quotientSize m l) (outputs .0), eqb-true (length item) (itemSize m n) (outputs .1 .0), eqb-true (length wit) (4 * k) (outputs .1 .1 .0)),
       )

@@ -100,7 +100,7 @@ module _ (d : Document) (a b c items wits : List ℕ) (passes : answer (document
               passed .1 .1 .0,
               (
                 rw (h .m-is, h .n-is, h .k-is, h .a-bytes, h .b-bytes, h .c-bytes) (passed .1 .1 .1 .0),
-                tt,
+                (rw (h .m-is, h .n-is, h .pair-count, h .item-bytes) (passed .1 .1 .1 .1 .0), tt),
               ),
             ),
           ),

@@ -93,7 +93,7 @@ unfoldable pub witnessBytes : List Pair → List ℕ
 witnessBytes [] = []
 witnessBytes (q ∷ qs) = bytes (q .witness) ++ witnessBytes qs
 
--- Checks 2 to 4 of what is written.
+-- Checks 2 to 4 and 13 of what is written.
 abbrev pub documentChecks : Document → List Check
 documentChecks d =
     check 2

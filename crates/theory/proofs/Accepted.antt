@@ -1,35 +1,35 @@
 -- What an accepted fold has: verifying and deciding answer 0 to it, so each of their checks passes.
 use mathlib.Core.Path.{_≡_, sym, _∙_, ap}
 use mathlib.Core.Bool.{true}
-use mathlib.Core.List.{List, [], _∷_}
+use mathlib.Core.List.{List}
 use Prim.Native.Nat.{ℕ, suc, _*_, _≤_, _<_}
 use native.Mathlib.Omega.{arith}
 use borrow.Author.Tests.{eqb-true}
 use lib.Dec.{eqb}
 use lib.ListN.{length}
 use Rattle.algebra.specs.Ring.{CommRing}
-use Rattle.algebra.specs.Lists.{All}
 use Rattle.algebra.proofs.ListLaws.{length-build}
 use Rattle.numbers.proofs.Bytes.{length-numbers}
 use Rattle.numbers.proofs.Bounds.{below}
-use Rattle.numbers.proofs.Tests.{and-left, and-right, each-true, equal-bytes}
+use Rattle.numbers.proofs.Tests.{and-left, and-right, equal-bytes}
 use Rattle.code.specs.Points.{isWitnessCount, depth}
 use Rattle.tree.proofs.ReadBack.{digests-length}
-use Rattle.theory.specs.Items.{Item}
-use Rattle.theory.specs.Combination.{newR, newX, newE, quotientSize, Shaped}
+use Rattle.theory.specs.Items.{Item, LeadingOne}
+use Rattle.theory.specs.Combination.{itemAt, quotientSize, Shaped}
 use Rattle.theory.specs.Folds.{Opening, Shown, Fold, positionCount, openingAt}
-use Rattle.theory.specs.Instance.{Instance, sameElement, sameElements, code}
+use Rattle.theory.specs.Instance.{Instance, code}
 use Rattle.theory.specs.Buffers.{elements, circuit, itemSize, readItems, readWitness}
-use Rattle.theory.specs.Sizes.{hasLength, sizes, pointsFit, circuitFits}
-use Rattle.theory.specs.Calls.{verify, decide}
+use Rattle.theory.specs.Calls.{decide}
+use Rattle.theory.specs.Verify.{verify}
 use Rattle.theory.specs.Statements.{FoldBytes, isAccepted, readFold}
 use Rattle.theory.proofs.Passing.{CodeLaws, Passes}
 use Rattle.theory.proofs.InstanceLaws.{InstanceLaws}
 use Rattle.theory.proofs.LentPoints.{code-laws}
 use Rattle.theory.proofs.CheckLaws.{every-true}
 use Rattle.theory.proofs.Passed.{VerifyPasses, verify-passes, DecidePasses, decide-passes}
-use Rattle.theory.proofs.Equality.{equal-element, equal-elements}
+use Rattle.theory.proofs.Equality.{equal-element}
 use Rattle.theory.proofs.HonestList.{witness-count, some-item, few-items}
+use Rattle.theory.proofs.LeadingOne.{items-leading-one}
 use Rattle.theory.proofs.Reading.{length-readItems, read-shaped, one-matches, one-holds, openingAt-readShown}
 
 module _ (I : Instance) (m n k l : ℕ) (points a b c items quotient : List ℕ) (f : FoldBytes I) (accepted : isAccepted I m n k l points a b c items quotient f ≡ true) where
@@ -79,24 +79,17 @@ module _ (I : Instance) (m n k l : ℕ) (points a b c items quotient : List ℕ)
   item-size : length (f .item) ≡ itemSize I m n
   item-size = eqb-true (length (f .item)) (itemSize I m n) (verified .fits .item-fits)
 
-  decide-fits : All (λ t. t ≡ true) (sizes m n k ∷ pointsFit k points ∷ circuitFits a b c ∷ hasLength (f .item) (itemSize I m n) ∷ hasLength (f .witness) (E .size k) ∷ [])
-  decide-fits = each-true (sizes m n k) (pointsFit k points ∷ circuitFits a b c ∷ hasLength (f .item) (itemSize I m n) ∷ hasLength (f .witness) (E .size k) ∷ []) (decided .fits)
-
   witness-size : length (f .witness) ≡ E .size k
-  witness-size = eqb-true (length (f .witness)) (E .size k) (decide-fits .1 .1 .1 .1 .0)
+  witness-size = eqb-true (length (f .witness)) (E .size k) (decided .fits .wit-fits)
 
   -- Deciding was lent 4k different points, or none.
   pub accepted-code : InstanceLaws I → CodeLaws K (code I k points)
-  accepted-code laws = code-laws I laws k counted points (decide-fits .1 .0) (decided .list .differ)
+  accepted-code laws = code-laws I laws k counted points (decided .fits .points-fit) (decided .list .differ)
 
-  -- ---- check 7: the new item
+  -- ---- check 13: the first inputs
 
-  check7 : All (λ t. t ≡ true) (sameElements I (shown .item .r) (newR F m batch (shown .challenge))
-      ∷ sameElements I (shown .item .x) (newX F n batch (shown .challenge))
-      ∷ sameElement I (shown .item .e) (newE F batch coefficients (shown .challenge)) ∷ [])
-  check7 = each-true (sameElements I (shown .item .r) (newR F m batch (shown .challenge)))
-      (sameElements I (shown .item .x) (newX F n batch (shown .challenge))
-      ∷ sameElement I (shown .item .e) (newE F batch coefficients (shown .challenge)) ∷ []) (verified .combine)
+  pub accepted-leading-one : (i : ℕ) → i < l → LeadingOne F (itemAt F batch i .x)
+  accepted-leading-one = items-leading-one I m n l items (verified .leading-one)
 
   -- ---- what the buffers are read as
 
@@ -121,9 +114,9 @@ module _ (I : Instance) (m n k l : ℕ) (points a b c items quotient : List ℕ)
     siblings = siblings;
     witness = length-build k _;
     inside = below (4 * k) (shown .positions) (verified .inside);
-    new-r = equal-elements I _ _ (check7 .0);
-    new-x = equal-elements I _ _ (check7 .1 .0);
-    new-e = equal-element I _ _ (check7 .1 .1 .0);
+    new-r = verified .combine .new-r;
+    new-x = verified .combine .new-x;
+    new-e = verified .combine .new-e;
     leads = λ q h i j. equal-bytes _ _ (every-true _ _ (every-true _ _ (verified .lead) q h) i j);
     combines = λ q h. equal-element I _ _ (every-true _ _ (verified .values-combine) q h);
     matches = equal-bytes _ _ (sym (one-matches I m n k (f .item) (f .witness) item-size witness-size points) ∙ decided .claims .all-match);

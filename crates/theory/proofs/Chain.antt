@@ -20,7 +20,8 @@ use Rattle.theory.specs.Instance.{Instance, code, witnessRoot}
 use Rattle.theory.specs.Buffers.{elements, circuit, itemBytes, readItems, witnessPart, readWitness, openingSize, openingBytes, inOrder}
 use Rattle.theory.specs.Sizes.{elementsBelow, openedBelow}
 use Rattle.theory.specs.Results.{Folded}
-use Rattle.theory.specs.Calls.{listQuotient, newWitness, newItem, openingOf, readShown}
+use Rattle.theory.specs.Calls.{listQuotient, newWitness, newItem, openingOf}
+use Rattle.theory.specs.Verify.{readShown}
 use Rattle.theory.specs.Statements.{Honest, PermittedChallenge, PermittedPositions, OutputsFit, folding, witnesses, opening}
 use Rattle.theory.proofs.Passing.{Passes}
 use Rattle.theory.proofs.InstanceLaws.{InstanceLaws}

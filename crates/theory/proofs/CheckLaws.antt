@@ -1,7 +1,7 @@
 -- The laws of checks: an answer is 0 exactly if every check passes; tests that hold over ranges.
 use mathlib.Core.Path.{_≡_, refl, _∙_, ap}
 use mathlib.Core.Logic.{_≢_}
-use mathlib.Core.Bool.{Bool, true, false}
+use mathlib.Core.Bool.{Bool, true, false, false≢true}
 use mathlib.Core.List.{List, [], _∷_, _++_}
 use Prim.Native.Nat.{ℕ, zero, suc, _<_}
 use native.Mathlib.Decide.{ℕ-discrete}
@@ -46,6 +46,15 @@ answer-passed (c ∷ cs) n e = go (c .passes) refl (answer-passed cs (n .1)) e
 pub passed-answer : (cs : List Check) → All Passed cs → answer cs ≡ 0
 passed-answer [] h = refl
 passed-answer (c ∷ cs) h = rw (h .0) (passed-answer cs (h .1))
+
+-- A number is not the answer where every check that has it passes.
+pub never-answers : (n : ℕ) (cs : List Check) → 0 < n → All (λ c. c .number ≡ n → Passed c) cs → answer cs ≢ n
+never-answers n [] some h = λ e. absurd (omega (arith, e))
+never-answers n (c ∷ cs) some h = go (c .passes) (h .0) (never-answers n cs some (h .1))
+  where
+    go : (b : Bool) → (c .number ≡ n → b ≡ true) → answer cs ≢ n → answerIf b (c .number) (answer cs) ≢ n
+    go true t ih = ih
+    go false t ih = λ e. absurd (false≢true (t e))
 
 pub passed-split : (cs ds : List Check) → All Passed (cs ++ ds) → All Passed cs × All Passed ds
 passed-split [] ds h = (tt, h)

@@ -4,7 +4,7 @@ use mathlib.Core.Bool.{true}
 use mathlib.Core.List.{List}
 use Prim.Native.Nat.{ℕ, suc}
 use borrow.Author.Tests.{eq-eqb}
-use lib.ListN.{length}
+use lib.ListN.{length, getD}
 use Rattle.algebra.specs.Ring.{CommRing}
 use Rattle.algebra.specs.Lists.{build}
 use Rattle.algebra.proofs.ListLaws.{All-append, All-build}
@@ -17,7 +17,8 @@ use Rattle.theory.specs.Folds.{Shown}
 use Rattle.theory.specs.Instance.{Instance, code, witnessRoot}
 use Rattle.theory.specs.Buffers.{elements, circuit, itemSize, itemBytes, readItems, readWitness, inOrder}
 use Rattle.theory.specs.Sizes.{hasLength}
-use Rattle.theory.specs.Calls.{listQuotient, newWitness, newItem, readShown, combines, openingsLead, valuesCombine, verifyChecks, verify, listChecks, claimChecks, decideChecks, decide}
+use Rattle.theory.specs.Calls.{listQuotient, newWitness, newItem, listChecks, claimChecks, decideChecks, decide}
+use Rattle.theory.specs.Verify.{readShown, combines, openingsLead, valuesCombine, verifyChecks, verify}
 use Rattle.theory.specs.Statements.{Honest, PermittedChallenge, PermittedPositions, OutputsFit, folding, opening, verifying, deciding, FirstStatement}
 use Rattle.theory.specs.Fp.{fp}
 use Rattle.theory.proofs.Passing.{Passes}
@@ -30,6 +31,7 @@ use Rattle.theory.proofs.ElementBytes.{length-written, elements-read}
 use Rattle.theory.proofs.ItemBytes.{Fits, length-itemBytes, item-below}
 use Rattle.theory.proofs.Reading.{one-below, one-matches, one-holds}
 use Rattle.theory.proofs.HonestList.{honest-fits, honest-passes, honest-below}
+use Rattle.theory.proofs.LeadingOne.{one-leading-one, combined-leading-one}
 use Rattle.theory.proofs.Folding.{length-newWitness, newItem-fits, challenge-sized, challenge-permitted, length-listQuotient, folding-answers, wrote-quotient, wrote-item, wrote-witness}
 use Rattle.theory.proofs.Opening.{position-count-fits, positions-fit}
 use Rattle.theory.proofs.Chain.{each-opening-answers, ordered-size, ordered-below, newest-read, chain-passes}
@@ -38,7 +40,7 @@ module _ {I : Instance} (laws : InstanceLaws I) {m n k l t : ℕ} {points a b c 
     (honest : Honest I m n k l points a b c items wits) (allowed : PermittedPositions k t positions) (outputs : OutputsFit I m n k l t quotient item wit openings)
     (challenge : I .format .Challenge) (permitted : PermittedChallenge I l challenge) where
   open Instance I using (field as F, format as E, hash as H)
-  open CommRing (F .ring) using (carrier as K)
+  open CommRing (F .ring) using (carrier as K, zero as 𝟘)
 
   abbrev batch : List (Item K)
   batch = readItems I m n l items
@@ -110,7 +112,7 @@ module _ {I : Instance} (laws : InstanceLaws I) {m n k l t : ℕ} {points a b c 
         & eq-eqb _ _ (ordered-size laws honest allowed outputs challenge permitted),
     (
       honest-below honest .items-below & laws .format-laws .numbers-below coefficients & item-below I laws new-fits & ordered-below laws honest allowed outputs challenge permitted,
-      (challenge-permitted I l challenge permitted, (allowed .check6, (check7, (check8, (check9, tt))))),
+      (honest-passes honest .leading-one, (challenge-permitted I l challenge permitted, (allowed .check6, (check7, (check8, (check9, tt)))))),
     ),
   )
 
@@ -126,6 +128,8 @@ module _ {I : Instance} (laws : InstanceLaws I) {m n k l t : ℕ} {points a b c 
         & laws .format-laws .numbers-below newest;
     differ = honest-passes honest .differ;
     in-order = honest-passes honest .in-order;
+    leading-one = one-leading-one I m n (itemBytes I new) item-size
+        (ap (λ (x : List K). getD x 0 𝟘) (passes .new-x) ∙ combined-leading-one I laws m n k l items (fits .sizes-fit) (fits .count-fits) (honest-passes honest .leading-one) (E .element challenge));
   }
 
   new-claims : ClaimsPass I m n k 1 points a b c (itemBytes I new) (E .bytesOf newest)

@@ -32,6 +32,9 @@ module _ (m n k : ℕ) (fit : sizes m n k ≡ true) where
   pub few-bits : m ≤ 6
   few-bits = leb-true m 6 (sizeTests .0)
 
+  pub some-input : 1 ≤ n
+  some-input = leb-true 1 n (sizeTests .1 .0)
+
   pub witness-count : isWitnessCount k ≡ true
   witness-count = sizeTests .1 .1 .1 .0
 
@@ -55,7 +58,7 @@ module _ {I : Instance} {m n k l : ℕ} {points a b c items wits : List ℕ} (ho
   honest-passes = list-passes I m n k l points a b c items wits (honest .checks)
 
   pub honest-below : ListBelow I m n k l points a b c items wits
-  honest-below = list-below I m n k l points a b c items wits honest-passes
+  honest-below = list-below I m n k l points a b c items wits (honest-passes .below)
 
   pub wits-size : length wits ≡ l * E .size k
   wits-size = eqb-true (length wits) (l * E .size k) (honest-fits .wits-fit)

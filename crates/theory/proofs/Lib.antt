@@ -18,6 +18,7 @@ pub mod ItemBytes
 pub mod OpeningBytes
 pub mod Reading
 pub mod HonestList
+pub mod LeadingOne
 pub mod Equality
 pub mod Folding
 pub mod Opening

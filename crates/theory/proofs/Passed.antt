@@ -5,19 +5,25 @@ use mathlib.Core.Bool.{true, _&&_}
 use mathlib.Core.List.{List, [], _∷_}
 use Prim.Native.Nat.{ℕ, suc, _*_}
 use native.Mathlib.Omega.{arith}
+use Rattle.algebra.specs.Ring.{CommRing}
 use Rattle.algebra.specs.Lists.{All}
 use Rattle.numbers.proofs.Tests.{each-true}
 use Rattle.code.specs.Points.{depth}
-use Rattle.theory.specs.Combination.{quotientSize}
+use Rattle.theory.specs.Items.{Item}
+use Rattle.theory.specs.Combination.{newR, newX, newE, quotientSize}
+use Rattle.theory.specs.Folds.{Shown}
 use Rattle.theory.specs.Checks.{check, answer}
-use Rattle.theory.specs.Instance.{Instance}
+use Rattle.theory.specs.Instance.{Instance, sameElement, sameElements}
 use Rattle.theory.specs.Buffers.{elements, circuit, itemSize, readItems, openingSize}
-use Rattle.theory.specs.Sizes.{sizes, itemCountFits, positionCountFits, circuitFits, hasLength, pointsFit, elementsBelow, circuitBelow, itemBelow, itemsBelow, openedBelow, pointsDiffer, circuitInOrder, positionsBelow}
-use Rattle.theory.specs.Calls.{encodeFits, encodeChecks, holds, castItem, castFits, castChecks, listFits, listBelow, listChecks, allMatch, allHold, claimChecks, quotientFits, quotientChecks, foldFits, foldChecks, openFits, openChecks, readShown, combines, openingsLead, valuesCombine, verifyFits, verifyChecks, decideFits, decideChecks}
+use Rattle.theory.specs.Sizes.{sizes, itemCountFits, positionCountFits, circuitFits, hasLength, pointsFit, elementsBelow, circuitBelow, itemBelow, itemsBelow, openedBelow, pointsDiffer, circuitInOrder, leadingOne, itemsLeadingOne, positionsBelow}
+use Rattle.theory.specs.Calls.{encodeFits, encodeChecks, holds, castItem, castFits, castChecks, listFits, listBelow, listChecks, allMatch, allHold, claimChecks, quotientFits, quotientChecks, foldFits, foldChecks, openFits, openChecks, decideFits, decideChecks}
+use Rattle.theory.specs.Verify.{readShown, combines, openingsLead, valuesCombine, verifyFits, verifyChecks}
 use Rattle.theory.proofs.CheckLaws.{Passed, answer-passed, passed-split}
+use Rattle.theory.proofs.Equality.{equal-element, equal-elements}
 
 module _ (I : Instance) where
-  open Instance I using (format as E)
+  open Instance I using (field as F, format as E)
+  open CommRing (F .ring) using (carrier as K)
 
   -- ---- encode
 
@@ -48,12 +54,13 @@ module _ (I : Instance) where
     pub below : (circuitBelow a b c && elementsBelow r && elementsBelow x && elementsBelow w) ≡ true
     pub differ : pointsDiffer points ≡ true
     pub in-order : circuitInOrder m n k a b c ≡ true
+    pub leading-one : leadingOne I (elements I n x) ≡ true
     pub holds : holds I (circuit I a b c) (castItem I m n k points r x w) (elements I k w) ≡ true
 
   pub cast-passes : (m n k : ℕ) (points a b c r x w item : List ℕ) → answer (castChecks I m n k points a b c r x w item) ≡ 0 → CastPasses m n k points a b c r x w item
   cast-passes m n k points a b c r x w item e =
       let t = answer-passed (castChecks I m n k points a b c r x w item) (omega arith) e in
-      record { fits = t .0; below = t .1 .0; differ = t .1 .1 .0; in-order = t .1 .1 .1 .0; holds = t .1 .1 .1 .1 .0 }
+      record { fits = t .0; below = t .1 .0; differ = t .1 .1 .0; in-order = t .1 .1 .1 .0; leading-one = t .1 .1 .1 .1 .0; holds = t .1 .1 .1 .1 .1 .0 }
 
   -- ---- a list: what quotient, fold and decide test alike
 
@@ -75,6 +82,7 @@ module _ (I : Instance) where
       pub below : listBelow I m n l a b c items wits ≡ true
       pub differ : pointsDiffer points ≡ true
       pub in-order : circuitInOrder m n k a b c ≡ true
+      pub leading-one : itemsLeadingOne I m n l items ≡ true
 
     -- Check 3, part by part.
     pub record ListBelow : Type 0 where
@@ -82,19 +90,19 @@ module _ (I : Instance) where
       pub items-below : itemsBelow I m n l items ≡ true
       pub wits-below : elementsBelow wits ≡ true
 
-    pub list-below : ListPasses → ListBelow
+    pub list-below : listBelow I m n l a b c items wits ≡ true → ListBelow
     list-below h =
-        let t = each-true (circuitBelow a b c) (itemsBelow I m n l items ∷ elementsBelow wits ∷ []) (h .below) in
+        let t = each-true (circuitBelow a b c) (itemsBelow I m n l items ∷ elementsBelow wits ∷ []) h in
         record { circuit-below = t .0; items-below = t .1 .0; wits-below = t .1 .1 .0 }
 
     of-list : All Passed (listChecks I m n k l points a b c items wits) → ListPasses
-    of-list t = record { below = t .0; differ = t .1 .0; in-order = t .1 .1 .0 }
+    of-list t = record { below = t .0; differ = t .1 .0; in-order = t .1 .1 .0; leading-one = t .1 .1 .1 .0 }
 
     pub list-passes : answer (listChecks I m n k l points a b c items wits) ≡ 0 → ListPasses
     list-passes e = of-list (answer-passed (listChecks I m n k l points a b c items wits) (omega arith) e)
 
     pub passed-list : ListPasses → All Passed (listChecks I m n k l points a b c items wits)
-    passed-list h = (h .below, (h .differ, (h .in-order, tt)))
+    passed-list h = (h .below, (h .differ, (h .in-order, (h .leading-one, tt))))
 
     pub record ClaimsPass : Type 0 where
       pub all-match : allMatch I m n k l points items wits ≡ true
@@ -135,18 +143,44 @@ module _ (I : Instance) where
 
   -- ---- decide
 
-  pub record DecidePasses (m n k : ℕ) (points a b c item wit : List ℕ) : Type 0 where
-    pub fits : decideFits I m n k points a b c item wit ≡ true
-    pub list : ListPasses m n k 1 points a b c item wit
-    pub claims : ClaimsPass m n k 1 points a b c item wit
+  module _ (m n k : ℕ) (points a b c item wit : List ℕ) where
+    pub record DecideFits : Type 0 where
+      pub sizes-fit : sizes m n k ≡ true
+      pub points-fit : pointsFit k points ≡ true
+      pub circuit-fits : circuitFits a b c ≡ true
+      pub item-fits : hasLength item (itemSize I m n) ≡ true
+      pub wit-fits : hasLength wit (E .size k) ≡ true
 
-  pub decide-passes : (m n k : ℕ) (points a b c item wit : List ℕ) → answer (decideChecks I m n k points a b c item wit) ≡ 0 → DecidePasses m n k points a b c item wit
-  decide-passes m n k points a b c item wit e =
-      let t = answer-passed (decideChecks I m n k points a b c item wit) (omega arith) e in
-      let s = passed-split (listChecks I m n k 1 points a b c item wit) (claimChecks I m n k 1 points a b c item wit) (t .1) in
-      record { fits = t .0; list = of-list m n k 1 points a b c item wit (s .0); claims = of-claims m n k 1 points a b c item wit (s .1) }
+    pub decide-fits : decideFits I m n k points a b c item wit ≡ true → DecideFits
+    decide-fits h =
+        let t = each-true (sizes m n k) (pointsFit k points ∷ circuitFits a b c ∷ hasLength item (itemSize I m n) ∷ hasLength wit (E .size k) ∷ []) h in
+        record { sizes-fit = t .0; points-fit = t .1 .0; circuit-fits = t .1 .1 .0; item-fits = t .1 .1 .1 .0; wit-fits = t .1 .1 .1 .1 .0 }
+
+    pub record DecidePasses : Type 0 where
+      pub fits : DecideFits
+      pub list : ListPasses m n k 1 points a b c item wit
+      pub claims : ClaimsPass m n k 1 points a b c item wit
+
+    pub decide-passes : answer (decideChecks I m n k points a b c item wit) ≡ 0 → DecidePasses
+    decide-passes e =
+        let t = answer-passed (decideChecks I m n k points a b c item wit) (omega arith) e in
+        let s = passed-split (listChecks I m n k 1 points a b c item wit) (claimChecks I m n k 1 points a b c item wit) (t .1) in
+        record { fits = decide-fits (t .0); list = of-list m n k 1 points a b c item wit (s .0); claims = of-claims m n k 1 points a b c item wit (s .1) }
 
   -- ---- verify
+
+  -- Check 7, part by part.
+  module _ (m n : ℕ) (items : List (Item K)) (q : List K) (s : Shown K) where
+    pub record Combines : Type 0 where
+      pub new-r : s .item .r ≡ newR F m items (s .challenge)
+      pub new-x : s .item .x ≡ newX F n items (s .challenge)
+      pub new-e : s .item .e ≡ newE F items q (s .challenge)
+
+    item-combines : combines I m n items q s ≡ true → Combines
+    item-combines h =
+        let t = each-true (sameElements I (s .item .r) (newR F m items (s .challenge)))
+        (sameElements I (s .item .x) (newX F n items (s .challenge)) ∷ sameElement I (s .item .e) (newE F items q (s .challenge)) ∷ []) h in
+        record { new-r = equal-elements I _ _ (t .0); new-x = equal-elements I _ _ (t .1 .0); new-e = equal-element I _ _ (t .1 .1 .0) }
 
   module _ (m n k l t : ℕ) (challenge : E .Challenge) (items positions q item openings : List ℕ) where
     pub record VerifyFits : Type 0 where
@@ -180,9 +214,10 @@ module _ (I : Instance) where
     pub record VerifyPasses : Type 0 where
       pub fits : VerifyFits
       pub below : (itemsBelow I m n l items && elementsBelow q && itemBelow I m n item && openedBelow I (depth k) (t * suc l) openings) ≡ true
+      pub leading-one : itemsLeadingOne I m n l items ≡ true
       pub permitted : E .permitted l challenge ≡ true
       pub inside : positionsBelow k positions ≡ true
-      pub combine : combines I m n (readItems I m n l items) (elements I (quotientSize m l) q) (readShown I m n k l t challenge positions item openings) ≡ true
+      pub combine : Combines m n (readItems I m n l items) (elements I (quotientSize m l) q) (readShown I m n k l t challenge positions item openings)
       pub lead : openingsLead I (readItems I m n l items) (readShown I m n k l t challenge positions item openings) ≡ true
       pub values-combine : valuesCombine I (readItems I m n l items) (readShown I m n k l t challenge positions item openings) ≡ true
 
@@ -192,9 +227,10 @@ module _ (I : Instance) where
         record {
           fits = verify-fits (s .0);
           below = s .1 .0;
-          permitted = s .1 .1 .0;
-          inside = s .1 .1 .1 .0;
-          combine = s .1 .1 .1 .1 .0;
-          lead = s .1 .1 .1 .1 .1 .0;
-          values-combine = s .1 .1 .1 .1 .1 .1 .0;
+          leading-one = s .1 .1 .0;
+          permitted = s .1 .1 .1 .0;
+          inside = s .1 .1 .1 .1 .0;
+          combine = item-combines m n (readItems I m n l items) (elements I (quotientSize m l) q) (readShown I m n k l t challenge positions item openings) (s .1 .1 .1 .1 .1 .0);
+          lead = s .1 .1 .1 .1 .1 .1 .0;
+          values-combine = s .1 .1 .1 .1 .1 .1 .1 .0;
         }

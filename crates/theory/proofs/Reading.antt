@@ -14,7 +14,8 @@ use Rattle.theory.specs.Folds.{noOpening, openingAt}
 use Rattle.theory.specs.Instance.{Instance}
 use Rattle.theory.specs.Buffers.{elements, circuit, itemSize, readItem, itemPart, readItems, readWitness, readOpening}
 use Rattle.theory.specs.Sizes.{itemBelow, itemsBelow}
-use Rattle.theory.specs.Calls.{matches, holds, allMatch, allHold, readShown}
+use Rattle.theory.specs.Calls.{matches, holds, allMatch, allHold}
+use Rattle.theory.specs.Verify.{readShown}
 use Rattle.theory.proofs.CheckLaws.{every-one}
 use Rattle.theory.proofs.ElementBytes.{length-readWitness}
 use Rattle.theory.proofs.Parts.{first-part}

@@ -12,8 +12,8 @@ use Rattle.algebra.specs.Lists.{All, Distinct, Differ}
 use Rattle.algebra.proofs.ListLaws.{All-from}
 use Rattle.numbers.specs.Numbers.{numbers}
 use Rattle.numbers.proofs.Tests.{and-left, and-right}
-use Rattle.theory.specs.Items.{Item}
-use Rattle.theory.specs.Combination.{node, quotientSize}
+use Rattle.theory.specs.Items.{Item, LeadingOne}
+use Rattle.theory.specs.Combination.{node, itemAt, quotientSize}
 use Rattle.theory.specs.Folds.{Fold, Opens}
 use Rattle.theory.specs.Selection.{allAmong}
 use Rattle.theory.specs.Instance.{Instance, sameElement, code}
@@ -25,7 +25,7 @@ use Rattle.theory.proofs.InstanceLaws.{InstanceLaws}
 use Rattle.theory.proofs.FpLaws.{fp-laws}
 use Rattle.theory.proofs.Equality.{same-element}
 use Rattle.theory.proofs.SelectionLaws.{select-passes, some-member, all-among, once-distinct, once-member}
-use Rattle.theory.proofs.Accepted.{accepted-code, at-most-eight, passes}
+use Rattle.theory.proofs.Accepted.{accepted-code, at-most-eight, accepted-leading-one, passes}
 use Rattle.theory.proofs.Reading.{length-readItems}
 use Rattle.theory.proofs.Extraction.{second-for-passing}
 
@@ -50,9 +50,9 @@ module _ (I : Instance) (m n k l : ℕ) (points a b c items quotient : List ℕ)
   challengeOf f = E .element (f .challenge)
 
   -- What holds of the folds as they are read holds of their bytes.
-  each-holds : (ps : List ℕ) (folds : List (FoldBytes I)) → EachHoldsOver F (code I k points) (circuit I a b c) batch ps (map read folds)
+  each-holds : (ps : List ℕ) (folds : List (FoldBytes I)) → ((i : ℕ) → i < l → LeadingOne F (itemAt F batch i .x)) → EachHoldsOver F (code I k points) (circuit I a b c) batch ps (map read folds)
       → EachHolds I m n k l points a b c items quotient ps folds
-  each-holds ps folds h = record {
+  each-holds ps folds lead h = record {
     values = h .values;
     shows = λ f s i q j. h .shows (read f) (Memᴰ·map read s) i q (inside j);
     shows-only = λ f s i q j. h .shows-only (read f) (Memᴰ·map read s) i q (inside j);
@@ -60,6 +60,7 @@ module _ (I : Instance) (m n k l : ℕ) (points a b c items quotient : List ℕ)
     witness-has = λ i j. let t = h .witness-has i (inside j) in record { size = t .size; values-at = t .values-at };
     witness-only = λ i j w t. h .witness-only i (inside j) w (record { size = t .size; values-at = t .values-at });
     holds = λ i j. h .holds i (inside j);
+    leading-one = lead;
   }
     where
       inside : {i : ℕ} → i < l → i < length batch
@@ -103,7 +104,7 @@ module _ (I : Instance) (m n k l : ℕ) (points a b c items quotient : List ℕ)
 -- Some fold is chosen, so the sizes are in range.
 pub second-for : (I : Instance) → InstanceLaws I → SecondStatement I
 second-for I laws m n k l points a b c items quotient folds ps size distinct many =
-    ⊎-elim inl (λ h. inr (each-holds I m n k l points a b c items quotient ps kept h))
+    ⊎-elim inl (λ h. inr (each-holds I m n k l points a b c items quotient ps kept (accepted-leading-one I m n k l points a b c items quotient f passed) h))
     (second-for-passing F (I .hash) (code I k points) (laws .hash-laws) (accepted-code I m n k l points a b c items quotient f passed laws)
     (circuit I a b c) m n (readItems I m n l items) (elements I (quotientSize m l) quotient) apart ps size distinct
     (map (readFold I m n k l points a b c items quotient) kept) (good I m n k l points a b c items quotient folds ps)

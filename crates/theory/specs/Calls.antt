@@ -1,11 +1,11 @@
--- The eight calls: what each answers, and what each output buffer then holds. Seven are those of paper 01, "Claims and folds" and
--- "Checking order"; interleaving puts openings in the order in which verifying reads them.
+-- The calls but for verifying: what each answers, and what each output buffer then holds. They are those of paper 01, "Claims and folds" and
+-- "Checking order", and interleaving, which puts openings in the order in which verifying reads them.
 -- A call's checks are listed in the paper's order, each over all its input before the next. Check 2 of a call is its `..Fits`.
 -- A call that works out codewords takes a buffer of points, the first of its buffers.
 use mathlib.Core.Bool.{Bool, _&&_}
 use mathlib.Core.List.{List, [], _∷_, _++_}
 use Prim.Native.Nat.{ℕ, suc, _*_}
-use lib.ListN.{length, getD}
+use lib.ListN.{getD}
 use Rattle.algebra.specs.Ring.{CommRing, Field}
 use Rattle.algebra.specs.Lists.{concatTo}
 use Rattle.numbers.specs.Numbers.{numbers}
@@ -15,13 +15,13 @@ use Rattle.tree.specs.Layout.{part}
 use Rattle.code.specs.Points.{isWitnessCount, depth}
 use Rattle.theory.specs.R1cs.{Circuit, value}
 use Rattle.theory.specs.Items.{Item, leaves}
-use Rattle.theory.specs.Combination.{itemAt, mix, newR, newX, newW, newE, quotientSize, quotientOf}
-use Rattle.theory.specs.Folds.{Opening, Shown, positionCount, valueAt, leadsTo, itemOf}
+use Rattle.theory.specs.Combination.{itemAt, newR, newX, newW, newE, quotientSize, quotientOf}
+use Rattle.theory.specs.Folds.{Opening}
 use Rattle.theory.specs.Checks.{Check, check, answer, written, every}
 use Rattle.theory.specs.Results.{Encoded, Cast, Quotient, Folded, Opened, Interleaved}
-use Rattle.theory.specs.Instance.{Instance, sameElement, sameElements, codewordOf, witnessRoot}
-use Rattle.theory.specs.Buffers.{elements, circuit, itemSize, readItem, itemBytes, readItems, readWitness, openingSize, readOpenings, openingBytes, inOrder}
-use Rattle.theory.specs.Sizes.{sizes, itemCountFits, positionCountFits, circuitFits, hasLength, pointsFit, elementsBelow, circuitBelow, itemBelow, itemsBelow, openedBelow, pointsDiffer, circuitInOrder, positionsBelow}
+use Rattle.theory.specs.Instance.{Instance, sameElement, codewordOf, witnessRoot}
+use Rattle.theory.specs.Buffers.{elements, circuit, itemSize, itemBytes, readItems, readWitness, openingSize, openingBytes, inOrder}
+use Rattle.theory.specs.Sizes.{sizes, itemCountFits, positionCountFits, circuitFits, hasLength, pointsFit, elementsBelow, circuitBelow, itemsBelow, pointsDiffer, circuitInOrder, leadingOne, itemsLeadingOne, positionsBelow}
 
 module _ (I : Instance) where
   open Instance I using (field as F, format as E, hash as H)
@@ -65,6 +65,7 @@ module _ (I : Instance) where
       ∷ check 3 (circuitBelow a b c && elementsBelow r && elementsBelow x && elementsBelow w)
       ∷ check 12 (pointsDiffer points)
       ∷ check 4 (circuitInOrder m n k a b c)
+      ∷ check 13 (leadingOne I (elements I n x))
       ∷ check 11 (holds (circuit I a b c) (castItem m n k points r x w) (elements I k w))
       ∷ []
 
@@ -84,7 +85,12 @@ module _ (I : Instance) where
 
   -- Between check 2 and a call's own.
   abbrev pub listChecks : ℕ → ℕ → ℕ → ℕ → List ℕ → List ℕ → List ℕ → List ℕ → List ℕ → List ℕ → List Check
-  listChecks m n k l points a b c items wits = check 3 (listBelow m n l a b c items wits) ∷ check 12 (pointsDiffer points) ∷ check 4 (circuitInOrder m n k a b c) ∷ []
+  listChecks m n k l points a b c items wits =
+      check 3 (listBelow m n l a b c items wits)
+      ∷ check 12 (pointsDiffer points)
+      ∷ check 4 (circuitInOrder m n k a b c)
+      ∷ check 13 (itemsLeadingOne I m n l items)
+      ∷ []
 
   -- Every item matches its witness, and every item holds with it.
   abbrev pub allMatch : ℕ → ℕ → ℕ → ℕ → List ℕ → List ℕ → List ℕ → Bool
@@ -189,52 +195,6 @@ module _ (I : Instance) where
   interleave k l t opened openings =
       let answered = answer (interleaveChecks k l t opened openings) in
       record { answer = answered; openings = written answered (inOrder I (depth k) t l (witnessOpenings k t opened)) openings }
-
-  -- ---- verify: sees neither circuit nor witness
-
-  -- What the buffers show.
-  abbrev pub readShown : ℕ → ℕ → ℕ → ℕ → ℕ → E .Challenge → List ℕ → List ℕ → List ℕ → Shown K
-  readShown m n k l t challenge positions item openings =
-      record { challenge = E .element challenge; positions = numbers positions; item = readItem I m n item; openings = readOpenings I (depth k) (t * suc l) openings }
-
-  -- Check 7: the new item's r, x and e are the ones defined for the challenge.
-  abbrev pub combines : ℕ → ℕ → List (Item K) → List K → Shown K → Bool
-  combines m n items q s =
-      sameElements I (s .item .r) (newR F m items (s .challenge))
-      && sameElements I (s .item .x) (newX F n items (s .challenge))
-      && sameElement I (s .item .e) (newE F items q (s .challenge))
-
-  -- Check 8: each opening leads to its root.
-  abbrev pub openingsLead : List (Item K) → Shown K → Bool
-  openingsLead items s =
-      every (positionCount s) (λ q. every (suc (length items)) (λ i. sameBytes (leadsTo F items H s q i) (itemOf F items s i .root)))
-
-  -- Check 9: each new opened value is the combination of the items' opened values.
-  abbrev pub valuesCombine : List (Item K) → Shown K → Bool
-  valuesCombine items s =
-      every (positionCount s) (λ q. sameElement I (valueAt F items s q (length items)) (mix F (length items) (λ i. valueAt F items s q i) (s .challenge)))
-
-  abbrev pub verifyFits : ℕ → ℕ → ℕ → ℕ → ℕ → E .Challenge → List ℕ → List ℕ → List ℕ → List ℕ → List ℕ → Bool
-  verifyFits m n k l t challenge items positions q item openings =
-      E .sized challenge && sizes m n k && itemCountFits l && positionCountFits k t
-      && hasLength items (l * itemSize I m n) && hasLength positions (4 * t) && hasLength q (E .size (quotientSize m l))
-      && hasLength item (itemSize I m n) && hasLength openings (t * suc l * openingSize I (depth k))
-
-  abbrev pub verifyChecks : ℕ → ℕ → ℕ → ℕ → ℕ → E .Challenge → List ℕ → List ℕ → List ℕ → List ℕ → List ℕ → List Check
-  verifyChecks m n k l t challenge items positions q item openings =
-      let batch = readItems I m n l items in
-      let shown = readShown m n k l t challenge positions item openings in
-      check 2 (verifyFits m n k l t challenge items positions q item openings)
-      ∷ check 3 (itemsBelow I m n l items && elementsBelow q && itemBelow I m n item && openedBelow I (depth k) (t * suc l) openings)
-      ∷ check 5 (E .permitted l challenge)
-      ∷ check 6 (positionsBelow k positions)
-      ∷ check 7 (combines m n batch (elements I (quotientSize m l) q) shown)
-      ∷ check 8 (openingsLead batch shown)
-      ∷ check 9 (valuesCombine batch shown)
-      ∷ []
-
-  unfoldable pub verify : ℕ → ℕ → ℕ → ℕ → ℕ → E .Challenge → List ℕ → List ℕ → List ℕ → List ℕ → List ℕ → ℕ
-  verify m n k l t challenge items positions q item openings = answer (verifyChecks m n k l t challenge items positions q item openings)
 
   -- ---- decide: a list of one item
 

@@ -1,5 +1,5 @@
 -- The field of p elements: its instance, with SHA-256, leaves of a position and the four bytes of a number, and the built-in points of the
--- code; and the names that the contracts of the calls use, each a definition of `Instance`, `Buffers`, `Sizes` or `Calls` for this instance.
+-- code; and the names that the contracts of the calls use, each a definition of `Instance`, `Buffers`, `Sizes`, `Calls` or `Verify` for this instance.
 use mathlib.Core.Bool.{Bool, true, _&&_}
 use mathlib.Core.List.{List, map}
 use Prim.Native.Nat.{ℕ, _*_}
@@ -218,25 +218,25 @@ abbrev pub interleave : ℕ → ℕ → ℕ → List ℕ → List ℕ → Interl
 interleave = Rattle.theory.specs.Calls.interleave fp
 
 abbrev pub readShown : ℕ → ℕ → ℕ → ℕ → ℕ → ℕ → List ℕ → List ℕ → List ℕ → Shown F
-readShown = Rattle.theory.specs.Calls.readShown fp
+readShown = Rattle.theory.specs.Verify.readShown fp
 
 abbrev pub combines : ℕ → ℕ → List (Item F) → List F → Shown F → Bool
-combines = Rattle.theory.specs.Calls.combines fp
+combines = Rattle.theory.specs.Verify.combines fp
 
 abbrev pub openingsLead : List (Item F) → Shown F → Bool
-openingsLead = Rattle.theory.specs.Calls.openingsLead fp
+openingsLead = Rattle.theory.specs.Verify.openingsLead fp
 
 abbrev pub valuesCombine : List (Item F) → Shown F → Bool
-valuesCombine = Rattle.theory.specs.Calls.valuesCombine fp
+valuesCombine = Rattle.theory.specs.Verify.valuesCombine fp
 
 abbrev pub verifyFits : ℕ → ℕ → ℕ → ℕ → ℕ → ℕ → List ℕ → List ℕ → List ℕ → List ℕ → List ℕ → Bool
-verifyFits = Rattle.theory.specs.Calls.verifyFits fp
+verifyFits = Rattle.theory.specs.Verify.verifyFits fp
 
 abbrev pub verifyChecks : ℕ → ℕ → ℕ → ℕ → ℕ → ℕ → List ℕ → List ℕ → List ℕ → List ℕ → List ℕ → List Check
-verifyChecks = Rattle.theory.specs.Calls.verifyChecks fp
+verifyChecks = Rattle.theory.specs.Verify.verifyChecks fp
 
 abbrev pub verify : ℕ → ℕ → ℕ → ℕ → ℕ → ℕ → List ℕ → List ℕ → List ℕ → List ℕ → List ℕ → ℕ
-verify = Rattle.theory.specs.Calls.verify fp
+verify = Rattle.theory.specs.Verify.verify fp
 
 abbrev pub decideFits : ℕ → ℕ → ℕ → List ℕ → List ℕ → List ℕ → List ℕ → List ℕ → List ℕ → Bool
 decideFits = Rattle.theory.specs.Calls.decideFits fp

@@ -30,7 +30,11 @@ pub record Item (K : Type 0) : Type 0 where
 
 module _ (F : Field) where
   open Field F using (ring as R)
-  open CommRing R using (carrier as K, zero as 𝟘)
+  open CommRing R using (carrier as K, zero as 𝟘, one as 𝟙)
+
+  -- The first of an item's public inputs x is 1.
+  abbrev pub LeadingOne : List K → Type 0
+  LeadingOne x = getD x 0 𝟘 ≡ 𝟙
 
   -- An item holds with a witness when the value equals e.
   abbrev pub Holds : Circuit K → Item K → List K → Type 0

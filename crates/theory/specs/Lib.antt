@@ -8,6 +8,7 @@ pub mod Instance
 pub mod Buffers
 pub mod Sizes
 pub mod Calls
+pub mod Verify
 pub mod Selection
 pub mod Statements
 pub mod Fp

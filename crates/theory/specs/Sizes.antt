@@ -1,15 +1,17 @@
--- The checks on sizes, numbers, points and circuits that several calls share (paper 01, "Checking order", 2 to 6, and 12, which was added to it).
+-- The checks on sizes, numbers, points, circuits and inputs that several calls share (paper 01, "Checking order", 2 to 6, and 12 and 13, which were
+-- added to it).
 use mathlib.Core.Bool.{Bool, _&&_, _||_}
 use mathlib.Core.List.{List}
 use Prim.Native.Nat.{ℕ, suc, _+_, _-_, _*_, _%_, _^_}
-use lib.ListN.{length}
+use lib.ListN.{length, getD}
 use lib.Dec.{eqb, leb, ltb}
+use Rattle.algebra.specs.Ring.{CommRing}
 use Rattle.numbers.specs.Numbers.{numbers, allBelow, allDifferent}
 use Rattle.field.specs.BabyBear.{p}
 use Rattle.code.specs.Points.{isWitnessCount}
 use Rattle.theory.specs.Checks.{every}
-use Rattle.theory.specs.Instance.{Instance}
-use Rattle.theory.specs.Buffers.{entryCount, rowAt, columnAt, entryValueAt, itemPart, openedPart}
+use Rattle.theory.specs.Instance.{Instance, sameElement}
+use Rattle.theory.specs.Buffers.{entryCount, rowAt, columnAt, entryValueAt, readItem, itemPart, openedPart}
 
 -- ---- check 2: sizes, counts and lengths
 
@@ -78,6 +80,19 @@ matrixInOrder m n k b = every (entryCount b) (inside m n k b) && every (entryCou
 
 abbrev pub circuitInOrder : ℕ → ℕ → ℕ → List ℕ → List ℕ → List ℕ → Bool
 circuitInOrder m n k a b c = matrixInOrder m n k a && matrixInOrder m n k b && matrixInOrder m n k c
+
+-- ---- check 13, directly after 4 (in verifying, which has no 4, directly after 3): the first public input is 1
+
+module _ (I : Instance) where
+  open Instance I using (field as F)
+  open CommRing (F .ring) using (carrier as K, zero as 𝟘, one as 𝟙)
+
+  abbrev pub leadingOne : List K → Bool
+  leadingOne x = sameElement I (getD x 0 𝟘) 𝟙
+
+  -- Of each of the first l items of a buffer.
+  abbrev pub itemsLeadingOne : ℕ → ℕ → ℕ → List ℕ → Bool
+  itemsLeadingOne m n l items = every l (λ i. leadingOne (readItem I m n (itemPart I m n items i) .x))
 
 -- ---- check 6: the positions
 

@@ -12,7 +12,7 @@ use Rattle.algebra.specs.Lists.{All, Distinct, build}
 use Rattle.numbers.specs.Numbers.{numbers}
 use Rattle.code.specs.Points.{depth}
 use Rattle.theory.specs.R1cs.{Circuit}
-use Rattle.theory.specs.Items.{Item, Holds, Matches}
+use Rattle.theory.specs.Items.{Item, LeadingOne, Holds, Matches}
 use Rattle.theory.specs.Combination.{itemAt, Shaped, AllHold, IsQuotient, quotientOf}
 use Rattle.theory.specs.Folds.{Fold, Shows, hashedFor}
 use Rattle.tree.specs.Collision.{Collision}
@@ -22,7 +22,8 @@ use Rattle.theory.specs.Instance.{Instance, sameElement, code, codewordO
 use Rattle.theory.specs.Buffers.{elements, circuit, readItems, witnessPart, readWitness, openingSize, inOrder}
 use Rattle.theory.specs.Sizes.{positionCountFits, positionsBelow, hasLength}
 use Rattle.theory.specs.Results.{Folded, Opened}
-use Rattle.theory.specs.Calls.{listFits, listChecks, foldOutputsFit, fold, «open», verify, decide, readShown}
+use Rattle.theory.specs.Calls.{listFits, listChecks, foldOutputsFit, fold, «open», decide}
+use Rattle.theory.specs.Verify.{verify, readShown}
 
 -- ---- the quotient
 
@@ -51,8 +52,9 @@ module _ (I : Instance) where
 
   -- ---- the first statement: one chain of calls
 
-  -- A list is honest over points when the points, the items, a witness for each and the one circuit pass checks 2, 3, 12 and 4 (behind 2
-  -- they are `listChecks`), and every item holds and matches with its witness. Lent points that are empty stand for the built-in ones.
+  -- A list is honest over points when the points, the items, a witness for each and the one circuit pass checks 2, 3, 12, 4 and 13 (behind 2
+  -- they are `listChecks`; by 13 every item's first input is 1), and every item holds and matches with its witness. Lent points that are
+  -- empty stand for the built-in ones.
   pub record Honest (m n k l : ℕ) (points a b c items wits : List ℕ) : Type 0 where
     pub check2 : listFits I m n k l points a b c items wits ≡ true
     pub checks : answer (listChecks I m n k l points a b c items wits) ≡ 0
@@ -138,7 +140,7 @@ module _ (I : Instance) where
       pub values-at : (p : ℕ) → List·Memᴰ p ps → getD (codewordOf I k points w) p 𝟘 ≡ values p
 
     -- The folds show one value of each item at each of the positions; the codeword of exactly one witness has these values;
-    -- and each item holds with it.
+    -- and each item holds with it and has 1 as its first input.
     pub record EachHolds (ps : List ℕ) (folds : List FoldBytes) : Type 0 where
       pub values : ℕ → ℕ → K
       pub shows : (f : FoldBytes) → List·Memᴰ f folds → (i p : ℕ) → i < l → List·Memᴰ p ps
@@ -149,6 +151,7 @@ module _ (I : Instance) where
       pub witness-has : (i : ℕ) → i < l → HasValues ps (values i) (witness i)
       pub witness-only : (i : ℕ) → i < l → (w : List K) → HasValues ps (values i) w → w ≡ witness i
       pub holds : (i : ℕ) → i < l → Holds F (circuit I a b c) (itemAt F (readItems I m n l items) i) (witness i)
+      pub leading-one : (i : ℕ) → i < l → LeadingOne F (itemAt F (readItems I m n l items) i .x)
 
     -- The folds of a list that are accepted and open all of the positions ps, and their different challenges, as elements: an
     -- accepted challenge is its element's own number.

@@ -1,4 +1,4 @@
--- After the scan of a sheet that keeps the rules and passes check 2: how long what was read is, checks 3 and 4 of it, and an acceptance.
+-- After the scan of a sheet that keeps the rules and passes check 2: how long what was read is, checks 3, 4 and 13 of it, and an acceptance.
 use mathlib.Core.Path.{_≡_, sym, ap, _∙_}
 use mathlib.Core.Bool.{true}
 use mathlib.Core.List.{List, []}
@@ -64,7 +64,7 @@ module _ {s : List ℕ} {st : State} (scanned : AfterScan s st) where
   pub wits-whole : 4 * st .pairs .wits ≡ 4 * (st .pairs .count * st .sizes .k)
   wits-whole = sym wits-long ∙ (wits-size s is-ordered pairs-fit ∙ ap (λ (t : State). 4 * (t .pairs .count * t .sizes .k)) (sym state))
 
-  -- Check 3 of the pairs at the fronts of the buffers is that of the lines.
+  -- Checks 3 and 13 of the pairs at the fronts of the buffers are those of the lines.
   pub pairs-same : (items₀ wits₀ items wits : List ℕ) → PairLengths items₀ wits₀ → Filled (bytesOf Item (sheetLines s)) items₀ items → Filled (bytesOf Wit (sheetLines s)) wits₀ wits
       → answer (listChecks (st .sizes .m) (st .sizes .n) (st .sizes .k) (st .pairs .count) [] [] [] [] (take (4 * st .pairs .items) items) (take (4 * st .pairs .wits) wits))
       ≡ (let ls = sheetLines s in answer (listChecks (m ls) (n ls) (k ls) (pairs ls) [] [] [] [] (bytesOf Item ls) (bytesOf Wit ls)))
@@ -89,6 +89,7 @@ module _ {s : List ℕ} (whole : AfterScan s (stateAfter (sheetLines s) (length 
       rw (same .0, same .1) (
       record {
         m-most = most .m-most;
+        n-least = most .n-least;
         n-most = most .n-most;
         k-counts = most .k-counts;
         k-most = most .k-most;

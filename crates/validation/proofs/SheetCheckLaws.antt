@@ -52,6 +52,7 @@ module _ (st : State) (fits : stateFits st ≡ true) where
   pub count-bounds : CountBounds (st .sizes .m) (st .sizes .n) (st .sizes .k) (st .entries .a) (st .entries .b) (st .entries .c) (st .pairs .count)
   count-bounds = record {
     m-most = leb-true (st .sizes .m) 6 (each .0);
+    n-least = leb-true 1 (st .sizes .n) (each .1 .0);
     n-most = leb-true (st .sizes .n) 64 (each .1 .1 .0);
     k-counts = each .1 .1 .1 .0;
     k-most = count-few (st .sizes .k) (each .1 .1 .1 .0);

@@ -9,6 +9,7 @@ use Rattle.code.specs.Points.{isWitnessCount}
 -- Sizes m, n and k, the entries of each list, and the pairs.
 pub record CountBounds (m n k a b c pairs : ℕ) : Type 0 where
   pub m-most : m ≤ 6
+  pub n-least : 1 ≤ n
   pub n-most : n ≤ 64
   pub k-counts : isWitnessCount k ≡ true
   pub k-most : k ≤ 64

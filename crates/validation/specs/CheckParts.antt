@@ -1,4 +1,5 @@
--- The checks of a sheet in two parts, as the code runs them: first those of its pairs, then those of its circuit.
+-- The checks of a sheet in two parts, as the code runs them: first those of its pairs, then those of its circuit. A 13 of
+-- the pairs waits for the circuit's.
 use mathlib.Core.Bool.{Bool, _&&_}
 use mathlib.Core.List.{List, [], _∷_}
 use Prim.Native.Nat.{ℕ}
@@ -9,7 +10,7 @@ use Rattle.lines.specs.Lines.{Line}
 use Rattle.scan.specs.Sheet.{sheetLines, m, n, k, pairs, bytesOf}
 use Rattle.validation.specs.SheetChecks.{keepsRules, countsFit}
 
--- Checks 1 and 2, and check 3 of the pairs: as of a list of items with an empty circuit.
+-- Checks 1 and 2, and checks 3 and 13 of the pairs: as of a list of items with an empty circuit.
 abbrev pub pairChecks : List ℕ → Bool → List Check
 pairChecks s lengths =
     let ls = sheetLines s in

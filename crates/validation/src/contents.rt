@@ -1,4 +1,4 @@
-// Checks 2 to 4 of what was read.
+// Checks 2 to 4 and 13 of what was read.
 ghost use mathlib.Core.Path.{_≡_};
 ghost use mathlib.Core.List.{[]};
 ghost use Prim.Native.Nat.{_*_};
@@ -23,7 +23,7 @@ pub fn counts_fit(st: State) -> bool
         & ((st.end as usize) == st.pairs.count)
 }
 
-// Check 3 of the pairs at the fronts of the buffers, as of a list without a circuit.
+// Checks 3 and 13 of the pairs at the fronts of the buffers, as of a list without a circuit.
 pub fn pairs_answer(st: State, items: &[u8], wits: &[u8]) -> u32
     requires { ⌜ CountBounds (st .sizes .m) (st .sizes .n) (st .sizes .k) (st .entries .a) (st .entries .b) (st .entries .c) (st .pairs .count) × PairLengths (now items) (now wits) ⌝ }
     requires { ⌜ (4 * st .pairs .items ≡ st .pairs .count * itemSize (st .sizes .m) (st .sizes .n)) × (4 * st .pairs .wits ≡ 4 * (st .pairs .count * st .sizes .k)) ⌝ }

@@ -20,7 +20,7 @@ pub extern "C" fn lomvuze_encode(
     encoder::encode::encode(k, points, w, code, root)
 }
 
-// Writes the item of an instance: r as lent, e 0, the root of the witness. Checks 2, 3, 12, 4 and 11.
+// Writes the item of an instance: r as lent, e 0, the root of the witness. Checks 2, 3, 12, 4, 13 and 11.
 #[no_mangle]
 pub extern "C" fn lomvuze_cast(
     m: u32,
@@ -41,7 +41,7 @@ pub extern "C" fn lomvuze_cast(
     decider::cast::cast(m, n, k, points, a, b, c, r, x, w, item)
 }
 
-// Writes the quotient of a list of items with their witnesses. Checks 2, 3, 12, 4, 10 and 11.
+// Writes the quotient of a list of items with their witnesses. Checks 2, 3, 12, 4, 13, 10 and 11.
 #[no_mangle]
 pub extern "C" fn lomvuze_quotient(
     m: u32,
@@ -62,7 +62,7 @@ pub extern "C" fn lomvuze_quotient(
     prover::quotient::quotient(m, n, k, l, points, a, b, c, items, wits, out)
 }
 
-// Writes the quotient, the new item and the new witness at a challenge. Checks 2, 3, 12, 4, 5, 10 and 11.
+// Writes the quotient, the new item and the new witness at a challenge. Checks 2, 3, 12, 4, 13, 5, 10 and 11.
 #[no_mangle]
 pub extern "C" fn lomvuze_fold(
     m: u32,
@@ -134,7 +134,7 @@ pub extern "C" fn lomvuze_interleave(
     encoder::interleave::interleave(k, l, t, opened, openings)
 }
 
-// Verifies a fold. Checks 2, 3 and 5 to 9.
+// Verifies a fold. Checks 2, 3, 13 and 5 to 9.
 #[no_mangle]
 pub extern "C" fn lomvuze_verify(
     m: u32,
@@ -166,7 +166,7 @@ pub extern "C" fn lomvuze_verify(
     )
 }
 
-// Decides an item with its witness. Checks 2, 3, 12, 4, 10 and 11.
+// Decides an item with its witness. Checks 2, 3, 12, 4, 13, 10 and 11.
 #[no_mangle]
 pub extern "C" fn lomvuze_decide(
     m: u32,
@@ -184,7 +184,7 @@ pub extern "C" fn lomvuze_decide(
     decider::decide::decide(m, n, k, points, a, b, c, item, wit)
 }
 
-// Reads a sheet into buffers of the greatest lengths; sizes gets m, n, k, the entries of A, B and C, and the count of pairs. Checks 1 to 4.
+// Reads a sheet into buffers of the greatest lengths; sizes gets m, n, k, the entries of A, B and C, and the count of pairs. Checks 1 to 4 and 13.
 #[no_mangle]
 pub extern "C" fn lomvuze_read_sheet(
     sheet: &[u8],

@@ -101,6 +101,7 @@ counts-fit m n k l t s i g =
     let e = sized m n k s in
     record {
       m-most = e .m-most;
+      n-least = e .n-least;
       n-most = e .n-most;
       k-count = e .count;
       l-least = counted l i .0;

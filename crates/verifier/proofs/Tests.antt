@@ -1,20 +1,16 @@
--- Laws of tests: parts of a joined test, and equality of elements as equality of numbers.
+-- Laws of tests: equality of elements as equality of numbers, and of byte strings.
 use mathlib.Core.Path.{_≡_, sym, ap, _∙_}
-use mathlib.Core.Bool.{Bool, true, _&&_}
-use mathlib.Core.List.{List, [], _∷_}
+use mathlib.Core.Bool.{Bool, true}
+use mathlib.Core.List.{List}
 use Prim.Native.Nat.{ℕ, _<_}
 use borrow.Author.Tests.{eqb-true, eq-eqb}
 use lib.Dec.{eqb}
 use Rattle.numbers.specs.Equality.{sameBytes}
-use Rattle.numbers.proofs.Tests.{same-bytes, equal-bytes, same-test, each-true}
+use Rattle.numbers.proofs.Tests.{same-bytes, equal-bytes, same-test}
 use Rattle.field.specs.BabyBear.{p, F, val, ofℕ}
 use Rattle.field.proofs.Laws.{val-small, ofℕ-of}
 use Rattle.theory.specs.Fp.{fp, sameElement}
 use Rattle.theory.proofs.Equality.{same-element, equal-element}
-
--- Of four tests that pass together, the last three pass.
-pub last-three : (a b c d : Bool) → (a && b && c && d) ≡ true → (b ≡ true) × (c ≡ true) × (d ≡ true)
-last-three a b c d h = let t = each-true a (b ∷ c ∷ d ∷ []) h in (t .1 .0, t .1 .1 .0, t .1 .1 .1 .0)
 
 -- A number below p is an element's number exactly if its element is that element.
 pub same-number : {x : ℕ} (a : F) → x < p → sameElement (ofℕ x) a ≡ eqb x (val a)

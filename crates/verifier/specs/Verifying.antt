@@ -20,6 +20,7 @@ use Rattle.fold.specs.Weights.{weighted}
 -- The sizes and counts are permitted.
 pub record Counts (m n k l t : ℕ) : Type 0 where
   pub m-most : m ≤ 6
+  pub n-least : 1 ≤ n
   pub n-most : n ≤ 64
   pub k-count : isWitnessCount k ≡ true
   pub l-least : 1 ≤ l

@@ -1,4 +1,4 @@
-// Verifying a fold, without circuit and witness. Checks 2, 3 and 5 to 9.
+// Verifying a fold, without circuit and witness. Checks 2, 3, 13 and 5 to 9.
 ghost use mathlib.Core.Path.{_≡_};
 ghost use mathlib.Core.Bool.{true, _&&_};
 ghost use mathlib.Core.List.{[], _∷_};
@@ -173,39 +173,36 @@ pub fn verify(
     if !fits(m, n, k, l, t, items, positions, quotient, item, openings) {
         return 2;
     }
-    if !numbers_below(
-        m as usize,
-        n as usize,
-        k as usize,
-        l as usize,
-        t as usize,
-        items,
-        quotient,
-        item,
-        openings,
-    ) {
+    let ms = m as usize;
+    let ns = n as usize;
+    let ks = k as usize;
+    let ls = l as usize;
+    let ts = t as usize;
+    if !numbers_below(ms, ns, ks, ls, ts, items, quotient, item, openings) {
         return 3;
+    }
+    if !checks::leading::items_leading_one(ms, ns, ls, items) {
+        return 13;
     }
     if !checks::sizes::challenge_fits(l, challenge) {
         return 5;
     }
-    if !checks::sizes::positions_below(k, positions, t as usize) {
+    if !checks::sizes::positions_below(k, positions, ts) {
         return 6;
     }
     let mut weights = [0u32; 8];
-    let count = l as usize;
     verdict_in(
-        m as usize,
-        n as usize,
-        k as usize,
-        l as usize,
-        t as usize,
+        ms,
+        ns,
+        ks,
+        ls,
+        ts,
         challenge,
         items,
         positions,
         quotient,
         item,
         openings,
-        &mut weights[..count],
+        &mut weights[..ls],
     )
 }

@@ -6,11 +6,11 @@
 #include "modp.h"
 #include "obligations.h"
 
-const struct circuit product = {0, 1, 2, LOMVUZE_ENTRIES_BYTES(1), {ENTRY(0, 1)}, {ENTRY(0, 2)}, {ENTRY(0, 0)}};
+const struct circuit product = {0, 2, 2, LOMVUZE_ENTRIES_BYTES(1), {ENTRY(0, 2)}, {ENTRY(0, 3)}, {ENTRY(0, 1)}};
 
-const struct claim six = {.x = {6}, .w = {2, 3}};
-const struct claim twenty_one = {.x = {21}, .w = {3, 7}};
-const struct claim falsehood = {.x = {21}, .w = {4, 5}};
+const struct claim six = {.x = {1, 6}, .w = {2, 3}};
+const struct claim twenty_one = {.x = {1, 21}, .w = {3, 7}};
+const struct claim falsehood = {.x = {1, 21}, .w = {4, 5}};
 
 uint32_t number(const uint8_t *bytes, size_t j) {
   const uint8_t *at = bytes + LOMVUZE_NUMBER_BYTES * j;
@@ -44,10 +44,10 @@ struct pair written(const struct circuit *c, struct claim claim) {
   return pair;
 }
 
-/* (x0 + e) * 1 = x0 + e. */
+/* (x1 + e) * 1 = x1 + e. */
 struct pair twin(const struct pair *pair) {
-  uint32_t e = number(pair->item, 0), x = number(pair->item, 1);
-  return written(&product, (struct claim){.e = e, .x = {x}, .w = {plus(x, e), 1}});
+  uint32_t e = number(pair->item, 0), x = number(pair->item, 2);
+  return written(&product, (struct claim){.e = e, .x = {1, x}, .w = {plus(x, e), 1}});
 }
 
 struct fold fold_of(const struct circuit *c, struct pair first, struct pair second, uint32_t quotient) {

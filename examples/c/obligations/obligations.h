@@ -14,7 +14,7 @@ enum { CHALLENGES = 2000 };
 
 /* The greatest sizes of the runs. */
 #define MOST_M 1u
-#define MOST_N 2u
+#define MOST_N 3u
 #define MOST_K 4u
 #define FOLDED 2u
 
@@ -30,7 +30,7 @@ struct circuit {
 /* An entry's bytes: a row and a column below 256, and the value 1. */
 #define ENTRY(row, column) row, 0, 0, 0, column, 0, 0, 0, 1, 0, 0, 0
 
-/* w0 * w1 = x0. The columns are x0, w0 and w1. */
+/* w0 * w1 = x1. The columns are x0, which is 1 in every item, x1, w0 and w1. */
 extern const struct circuit product;
 
 /* A claim in numbers. */
@@ -50,10 +50,10 @@ struct pair {
 /* The item of a claim as anybody can write it: the root is that of the witness, and nothing else is tested. */
 struct pair written(const struct circuit *circuit, struct claim claim);
 
-/* For the circuit w0 * w1 = x0: an item with the same e and x that holds, and has another witness and root. */
+/* For the circuit w0 * w1 = x1: an item with the same e and x that holds, and has another witness and root. */
 struct pair twin(const struct pair *pair);
 
-/* Number j of a buffer, read and written. In an item, e is number 0, r is number 1 where m = 1, and x follows. */
+/* Number j of a buffer, read and written. In an item, e is number 0, r is number 1 where m = 1, and x follows, with 1 as its first number. */
 uint32_t number(const uint8_t *bytes, size_t j);
 void put(uint8_t *bytes, size_t j, uint32_t value);
 
@@ -64,7 +64,7 @@ void put_root(const struct circuit *circuit, struct pair *pair);
 
 enum call { CAST, FOLD, VERIFY, DECIDE, CALLS };
 
-enum { LAST_ANSWER = LOMVUZE_POINTS };
+enum { LAST_ANSWER = LOMVUZE_FIRST_INPUT };
 
 /*
  * At how many challenges every call that the clearing house ran answered 0, at how many it must be so, and how often a call gave an answer that

@@ -2,9 +2,9 @@
 #include "modp.h"
 #include "obligations.h"
 
-/* The value of a pair, for the circuit w0 * w1 = x0. */
+/* The value of a pair, for the circuit w0 * w1 = x1. */
 static uint32_t value(const struct pair *pair) {
-  return minus(times(number(pair->witness, 0), number(pair->witness, 1)), number(pair->item, 1));
+  return minus(times(number(pair->witness, 0), number(pair->witness, 1)), number(pair->item, 2));
 }
 
 /* The quotient with which the fold holds at this one challenge. Both items have e = 0, so e has to be Z(a) * quotient. */

@@ -20,9 +20,9 @@ void e_of_a_fold(struct tally *without, struct tally *with) {
   run_chains(&f, with);
 }
 
-/* Row 0: w0 * w1 = x0. Row 1: w0 * w0 = x1. The columns are x0, x1, w0 and w1. */
+/* Row 0: w0 * w1 = x1. Row 1: w0 * w0 = x2. The columns are x0, which is 1, x1, x2, w0 and w1. */
 static const struct circuit two_rows = {
-    1, 2, 2, LOMVUZE_ENTRIES_BYTES(2), {ENTRY(0, 2), ENTRY(1, 2)}, {ENTRY(0, 3), ENTRY(1, 2)}, {ENTRY(0, 0), ENTRY(1, 1)}};
+    1, 3, 2, LOMVUZE_ENTRIES_BYTES(2), {ENTRY(0, 3), ENTRY(1, 3)}, {ENTRY(0, 4), ENTRY(1, 3)}, {ENTRY(0, 1), ENTRY(1, 2)}};
 
 /*
  * A claim that is cast with one r, and then with another. 2 * 3 = 6, 2 * 2 = 4 is folded with it. Where casting refuses, the item is written by
@@ -30,7 +30,7 @@ static const struct circuit two_rows = {
  */
 static void try_r(struct claim claim, uint32_t picked, uint32_t other, struct tally *without, struct tally *with) {
   struct pair honest = {{0}, {0}}, pair = honest;
-  cast(&two_rows, (struct claim){.r = 7, .x = {6, 4}, .w = {2, 3}}, &honest, without);
+  cast(&two_rows, (struct claim){.r = 7, .x = {1, 6, 4}, .w = {2, 3}}, &honest, without);
   claim.r = picked;
   if (!cast(&two_rows, claim, &pair, without)) pair = written(&two_rows, claim);
   struct fold f = fold_of(&two_rows, honest, pair, 0);
@@ -44,11 +44,11 @@ static void try_r(struct claim claim, uint32_t picked, uint32_t other, struct ta
 
 /* 2. Row 1 says 2 * 2 = 5. With r = 0 its weight is 0. */
 void r_of_the_registrar(struct tally *without, struct tally *with) {
-  try_r((struct claim){.x = {6, 5}, .w = {2, 3}}, 0, 7, without, with);
+  try_r((struct claim){.x = {1, 6, 5}, .w = {2, 3}}, 0, 7, without, with);
 }
 
 /* 2. The weights are 1 - r and r, -6 and 7 for r = 7: x is made such that row 0 is wrong by 7 and row 1 by 6. */
 void r_known_before(struct tally *without, struct tally *with) {
-  struct claim claim = {.x = {minus(6, 7), minus(4, 6)}, .w = {2, 3}};
+  struct claim claim = {.x = {1, minus(6, 7), minus(4, 6)}, .w = {2, 3}};
   try_r(claim, 7, 11, without, with);
 }

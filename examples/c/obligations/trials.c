@@ -13,7 +13,7 @@ const struct obligation obligations[OBLIGATIONS] = {
 
 const struct trial trials[TRIALS] = {
     {1, e_of_a_fold, "4 × 5 = 21 is handed in with e = p - 1", "e = 0",
-     "The circuit says w0 × w1 = x0. The value of 4 × 5 = 21 is 20 - 21 = p - 1. With e = p - 1 the item holds, so\n"
+     "The circuit says w0 × w1 = x1. The value of 4 × 5 = 21 is 20 - 21 = p - 1. With e = p - 1 the item holds, so\n"
      "fold takes it with 2 × 3 = 6, and the rest follows.",
      "The clearing house takes no item whose e is not 0. With e = 0 fold refuses. The registrar folds by hand and\n"
      "keeps the quotient from before: that passes verify, and decide refuses."},
@@ -45,11 +45,12 @@ const struct trial trials[TRIALS] = {
      "item, but a root and a witness of its own, with which it holds.",
      "The new item that was verified is decided."},
     {5, other_circuit, "the circuit comes from the registrar", "the agreed circuit",
-     "The same items. The registrar's circuit has no entries: it says 0 = 0 of every item.", "Decided with w0 × w1 = x0."},
+     "The same items. The registrar's circuit has no entries: it says 0 = 0 of every item.", "Decided with w0 × w1 = x1."},
     {5, other_sizes, "decide's sizes come from the registrar", "the agreed sizes",
-     "The circuit says w0 × w1 = x1, and x0 is 1 in every statement: m = 0, n = 2. With m = 1, n = 1 an item has as\n"
-     "many bytes, and x0 is read as r. With r = 1 row 0 has the weight 0.",
-     "Decided with m = 0, n = 2."},
+     "The circuit says w0 × w1 = x2, x0 is 1 as in every item, and the registrar picks x1 = 1: m = 0, n = 3. With\n"
+     "m = 1, n = 2 an item has as many bytes, x0 is read as r, and x1 as the first input, which is 1 as it must be.\n"
+     "With r = 1 row 0 has the weight 0.",
+     "Decided with m = 0, n = 3."},
     {5, other_points, "decide's points come from the registrar", "the agreed points",
      "The new item that was verified is decided, with a witness w0, 1 with which it holds. The codeword of w0, 1 has\n"
      "w0 + point i at position i. The registrar picks each point such that this is the value in the tree under the\n"

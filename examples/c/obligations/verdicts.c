@@ -34,7 +34,7 @@ void other_item_decided(struct tally *without, struct tally *with) {
 
 /* 5. A circuit without entries says 0 = 0 of every item. The quotient is 0, so that the new item has e = 0. */
 void other_circuit(struct tally *without, struct tally *with) {
-  const struct circuit nothing = {.m = 0, .n = 1, .k = 2, .length = 0};
+  const struct circuit nothing = {.m = 0, .n = 2, .k = 2, .length = 0};
   struct fold f = false_fold(0);
   struct picker house = FIRST_PICKS;
   for (int i = 0; i < CHALLENGES; i++) {
@@ -45,22 +45,22 @@ void other_circuit(struct tally *without, struct tally *with) {
 }
 
 /*
- * 5. w0 * w1 = x1, and x0 is 1 in every statement. An item has as many bytes for m = 0, n = 2 as for m = 1, n = 1; then x0 is read as r, and with
- * r = 1 row 0 has the weight 0.
+ * 5. w0 * w1 = x2, and the registrar picks x1 = 1. An item has as many bytes for m = 0, n = 3 as for m = 1, n = 2; then x0 is read as r, and x1, which
+ * is 1 too, as the first input. With r = 1 row 0 has the weight 0.
  */
-static const struct circuit with_one = {0, 2, 4, LOMVUZE_ENTRIES_BYTES(1), {ENTRY(0, 2)}, {ENTRY(0, 3)}, {ENTRY(0, 1)}};
+static const struct circuit two_ones = {0, 3, 4, LOMVUZE_ENTRIES_BYTES(1), {ENTRY(0, 3)}, {ENTRY(0, 4)}, {ENTRY(0, 2)}};
 
 void other_sizes(struct tally *without, struct tally *with) {
-  struct circuit resized = with_one;
+  struct circuit resized = two_ones;
   resized.m = 1;
-  resized.n = 1;
-  struct claim honest = {.x = {1, 6}, .w = {2, 3}}, bad = {.x = {1, 21}, .w = {4, 5}};
-  struct fold f = fold_of(&with_one, written(&with_one, honest), written(&with_one, bad), 0);
+  resized.n = 2;
+  struct claim honest = {.x = {1, 1, 6}, .w = {2, 3}}, bad = {.x = {1, 1, 21}, .w = {4, 5}};
+  struct fold f = fold_of(&two_ones, written(&two_ones, honest), written(&two_ones, bad), 0);
   struct picker house = FIRST_PICKS;
   for (int i = 0; i < CHALLENGES; i++) {
     fold_next(&f, &house);
     count(without, verify(&f, without), decide(&resized, &f.out, without));
-    count(with, verify(&f, with), decide(&with_one, &f.out, with));
+    count(with, verify(&f, with), decide(&two_ones, &f.out, with));
   }
 }
 
@@ -119,7 +119,7 @@ static bool fold_above(struct pair item, struct picker *house, struct tally *tal
   return verified && decided;
 }
 
-/* The test of obligation 7, for the sizes of w0 * w1 = x0. */
+/* The test of obligation 7, for the sizes of w0 * w1 = x1. */
 static bool same_bytes(const struct pair *above, const struct pair *verified) {
   return memcmp(above->item, verified->item, LOMVUZE_ITEM_BYTES(product.m, product.n)) == 0;
 }

@@ -94,7 +94,14 @@ impl Call {
                 format!("encodeOver {tests} bytes val ofℕ"),
                 format!("λ i. record {{ answer = 0; code = bytes (map val ({lent}codeword-is i)); root = {lent}root-is i }}"),
             ),
-            ("cast", 11) => (format!("{tests} babyBear val ofℕ"), format!("cast-runs {arguments} ∙ refl")),
+            // Check 13, and what comes behind it.
+            ("cast" | "quotient" | "fold" | "verify", 13 | 5 | 6) | ("cast", 11) => (
+                format!("{tests} depth babyBear val ofℕ"),
+                format!("{}-runs {arguments} ∙ refl", self.name),
+            ),
+            ("decide", 13) => {
+                (format!("{tests} babyBear val ofℕ"), format!("decide-tests {arguments} ∙ refl"))
+            }
             ("decide", 0 | 10 | 11) => (
                 format!("{tests} itemAt babyBear val ofℕ"),
                 format!("decide-runs {arguments} _ {lent}root-is ∙ refl"),
@@ -118,27 +125,32 @@ impl Call {
     }
 
     /// The call's name and answer, and an equation that the prover can run: for what is not refused before hashing, that
-    /// the call passes its checks 2 to 6 and 12.
+    /// the call passes its checks 2 to 6, 12 and 13.
     fn runnable(self) -> (&'static str, u32, Equation) {
         let (name, passes_early) = (self.name, self.passes_early());
         let (answer, equation) = self.equation();
         (name, answer, if runs_unhashed(name, answer) { equation } else { passes_early })
     }
 
-    /// The equation that says that the call passes its checks 2 to 6 and 12.
+    /// The equation that says that the call passes its checks 2 to 6, 12 and 13.
     fn passes_early(&self) -> Equation {
-        let (name, early) = match self.name {
-            "encode" => ("encode", 3),
-            "fold" => ("fold", 5),
-            "«open»" => ("open", 4),
-            "interleave" => ("interleave", 1),
-            name => (name, 4),
+        let (name, early, runs_13) = match self.name {
+            "encode" => ("encode", 3, false),
+            "«open»" => ("open", 4, false),
+            "interleave" => ("interleave", 1, false),
+            "fold" => ("fold", 6, true),
+            name => (name, 5, true),
+        };
+        let arguments = self.arguments();
+        let (elements, proof) = match runs_13 {
+            true => (" babyBear val ofℕ", format!("{name}-early {arguments} ∙ refl")),
+            false => ("", "refl".to_string()),
         };
         Equation {
-            left: format!("answer (take {early} ({name}Checks {}))", self.arguments()),
+            left: format!("answer (take {early} ({name}Checks {arguments}))"),
             right: "0".to_string(),
-            unfolding: format!("{TESTS} depth"),
-            proof: "refl".to_string(),
+            unfolding: format!("{TESTS} depth{elements}"),
+            proof,
         }
     }
 
@@ -173,7 +185,8 @@ const EACH: usize = 6;
 
 /// Whether the prover can run the call: it hashes nothing, or is refused before it does.
 fn runs_unhashed(name: &str, answer: u32) -> bool {
-    matches!(answer, 2..=6 | 12) || matches!((name, answer), ("cast", 11) | ("verify", 7) | ("interleave", 0))
+    matches!(answer, 2..=6 | 12 | 13)
+        || matches!((name, answer), ("cast", 11) | ("verify", 7) | ("interleave", 0))
 }
 
 pub fn answers() -> File {
@@ -205,11 +218,12 @@ use Rattle.code.specs.Points.{depth}
 use lib.ListN.{take}
 use Rattle.theory.specs.Checks.{every, answer}
 use Rattle.theory.specs.Combination.{itemAt}
-use Rattle.theory.specs.Calls.{encode as encodeOver, cast as castOver, quotient as quotientOver, fold as foldOver, «open» as openOver, interleave as interleaveOver, verify as verifyOver, decide as decideOver}
+use Rattle.theory.specs.Calls.{encode as encodeOver, cast as castOver, quotient as quotientOver, fold as foldOver, «open» as openOver, interleave as interleaveOver, decide as decideOver}
+use Rattle.theory.specs.Verify.{verify as verifyOver}
 use Rattle.theory.specs.Fp.{encode, cast, quotient, fold, «open», interleave, verify, decide}
 use Rattle.theory.specs.Fp.{encodeChecks, castChecks, quotientChecks, foldChecks, openChecks, interleaveChecks, verifyChecks, decideChecks}
 use Rattle.agreement.specs.Elements.{listed}
-use Rattle.agreement.specs.Runs.{cast-runs, decide-runs, verify-runs}
+use Rattle.agreement.specs.Runs.{cast-runs, cast-early, quotient-runs, quotient-early, fold-runs, fold-early, decide-runs, decide-tests, decide-early, verify-runs, verify-early}
 use Rattle.agreement.specs.Inverses.{inverse-0-1, inverse-1-0}
 use Rattle.agreement.specs.Digests.{equation-16 as codeword-is, equation-17 as root-is, equation-34 as lent-codeword-is, equation-35 as lent-root-is}
 "

@@ -55,10 +55,10 @@ fn node_inverses(l: usize) -> Vec<Known> {
     pairs.map(|(i, j)| difference(i, j)).collect()
 }
 
-/// The paper's circuit: w0 × w1 = x0.
+/// The paper's circuit, with 1 as first input: w0 × w1 = x1.
 fn product() -> Circuit {
     let one_at = |column| vec![Entry { row: 0, column, value: number(1) }];
-    Circuit { a: one_at(1), b: one_at(2), c: one_at(0) }
+    Circuit { a: one_at(2), b: one_at(3), c: one_at(1) }
 }
 
 fn of(numbers: &[usize]) -> Vec<Element> {
@@ -78,8 +78,8 @@ fn value_of(matrices: &Circuit, r: &[Element], x: &[Element], w: &[Element]) -> 
 pub fn values() -> File {
     let random = &mut Random::new(1);
     let mut equations = vec![
-        value_of(&product(), &[], &of(&[6]), &of(&[2, 3])),
-        value_of(&product(), &[], &of(&[21]), &of(&[4, 5])),
+        value_of(&product(), &[], &of(&[1, 6]), &of(&[2, 3])),
+        value_of(&product(), &[], &of(&[1, 21]), &of(&[4, 5])),
     ];
     for _ in 0..200 {
         let (m, n, k) = (random.below(4), 1 + random.below(3), 2 << random.below(2));
@@ -153,10 +153,12 @@ fn new_at(items: &[Item], witnesses: &[Vec<Element>], quotient: &[Element], a: E
     }
 }
 
-/// Items (x; w) of the paper's circuit with e = 0.
+/// Items (1, x; w) of the paper's circuit with e = 0.
 fn paper_items(claims: &[(usize, [usize; 2])]) -> (Vec<Item>, Vec<Vec<Element>>) {
-    let items =
-        claims.iter().map(|(x, _)| Item { e: number(0), r: vec![], x: of(&[*x]), root: [0; 32] }).collect();
+    let items = claims
+        .iter()
+        .map(|(x, _)| Item { e: number(0), r: vec![], x: of(&[1, *x]), root: [0; 32] })
+        .collect();
     (items, claims.iter().map(|(_, w)| of(w)).collect())
 }
 

@@ -10,7 +10,7 @@ use lomvuze_samples::{bytes, number_at, points, put, Chain, Honest, Random, REFE
 
 /// An honest list of small sizes, with points or none, and its instance.
 fn honest_list(random: &mut Random) -> (Honest, Instance) {
-    let (m, n, k, l) = (random.below(2), 1, 2, 1 + random.below(2));
+    let (m, n, k, l) = (random.below(2), 1 + random.below(2), 2, 1 + random.below(2));
     let instance = Instance::random(random, m, n, k, l);
     let list = Honest {
         m: m as u32,
@@ -102,7 +102,7 @@ fn worked_out_at(random: &mut Random, lent: &[u8], count: usize) -> Vec<Call> {
     for i in 0..count {
         let (m, n) = (random.below(3), 1 + random.below(2));
         let matrices = instance::circuit(random, m, n + w.len());
-        let (r, x) = (random.elements(m), random.elements(n));
+        let (r, x) = (random.elements(m), random.inputs(n));
         let mut item = Item { e: claims::value(&matrices, &r, &x, &w), r, x, root };
         if i % 3 == 1 {
             item.e = random.element();
@@ -145,7 +145,7 @@ pub fn edges(random: &mut Random) -> Vec<Call> {
             }
         }
         let circuit = matches!(call.name, "cast" | "quotient" | "fold" | "decide");
-        all.extend(edges_of_points(&call));
+        all.extend([edges_of_points(&call), edges_of_first_inputs(&call)].concat());
         for i in 0..call.buffers.len() - call.outputs.len() {
             let last = call.buffers[i].len().saturating_sub(12);
             let numbers = match (circuit && (1..4).contains(&i), call.name, i) {
@@ -166,6 +166,29 @@ pub fn edges(random: &mut Random) -> Vec<Call> {
                     put(&mut edge.buffers[i], at, number);
                     all.push(edge);
                 }
+            }
+        }
+    }
+    all
+}
+
+/// First inputs other than 1: of the lent x, or of each item by itself, the new one too.
+fn edges_of_first_inputs(call: &Call) -> Vec<Call> {
+    let item = |m: u32, n: u32| (4 + 4 * m as usize, (4 + 4 * m + 4 * n + 32) as usize);
+    // Which buffers have first inputs, where the first one stands, and how far the next one is.
+    let (buffers, (first, length)) = match (call.name, &call.numbers[..]) {
+        ("cast", _) => (&[5][..], (0, usize::MAX)),
+        ("quotient" | "fold" | "decide", [m, n, ..]) => (&[4][..], item(*m, *n)),
+        ("verify", [m, n, ..]) => (&[0, 3][..], item(*m, *n)),
+        _ => return vec![],
+    };
+    let mut all = vec![];
+    for i in buffers {
+        for at in (first..call.buffers[*i].len()).step_by(length) {
+            for number in [0, 2, P - 1] {
+                let mut edge = call.clone();
+                put(&mut edge.buffers[*i], at, number);
+                all.push(edge);
             }
         }
     }

@@ -5,7 +5,7 @@ use lomvuze_reference::code;
 use lomvuze_reference::field::Element;
 use lomvuze_samples::{bytes, Random};
 
-/// Items with witnesses for one circuit; every item holds, and matches at the built-in points.
+/// Items with witnesses for one circuit; every item has 1 as first input, holds, and matches at the built-in points.
 pub struct Instance {
     pub circuit: Circuit,
     pub items: Vec<Item>,
@@ -34,7 +34,7 @@ impl Instance {
         let points = code::built_in_points(k);
         let (mut items, mut witnesses) = (vec![], vec![]);
         for _ in 0..l {
-            let (r, x, w) = (random.elements(m), random.elements(n), random.elements(k));
+            let (r, x, w) = (random.elements(m), random.inputs(n), random.elements(k));
             let e = claims::value(&circuit, &r, &x, &w);
             items.push(Item { e, r, x, root: code::root(&points, &w) });
             witnesses.push(w);

@@ -63,6 +63,9 @@ pub fn cast(
     if !in_order(m, n, circuit) {
         return 4;
     }
+    if get(x, 0) != 1 {
+        return 13;
+    }
     if claim_value(circuit, r, x, w) != 0 {
         return 11;
     }
@@ -139,6 +142,9 @@ pub fn decide(
     };
     if !in_order(m, n, circuit) {
         return 4;
+    }
+    if !leading_ones(m, n, item) {
+        return 13;
     }
     check_claims(m, n, &points, circuit, item, wit)
 }

@@ -1,4 +1,4 @@
-//! Numbers in buffers, and checks 2 to 6 with k = 64.
+//! Numbers in buffers, and checks 2 to 6 and 13 with k = 64.
 
 use crate::plain::P;
 
@@ -30,7 +30,7 @@ pub fn item_length(m: usize, n: usize) -> usize {
     4 + 4 * m + 4 * n + 32
 }
 
-// ---- Checks 2 to 6
+// ---- Checks 2 to 6 and 13
 
 pub fn sizes(m: u32, n: u32, k: u32) -> bool {
     m <= 6 && (1..=64).contains(&n) && k as usize == K
@@ -58,6 +58,10 @@ pub fn in_order(m: usize, n: usize, circuit: Circuit) -> bool {
         list.chunks_exact(12).all(|entry| place(entry).0 < 1 << m && place(entry).1 < (n + K) as u32)
             && list.chunks_exact(12).zip(list.chunks_exact(12).skip(1)).all(|(a, b)| place(a) < place(b))
     })
+}
+
+pub fn leading_ones(m: usize, n: usize, items: &[u8]) -> bool {
+    items.chunks_exact(item_length(m, n)).all(|item| get(item, 1 + m) == 1)
 }
 
 pub fn challenge_fits(l: u32, challenge: u32) -> bool {

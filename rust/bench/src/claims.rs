@@ -169,7 +169,7 @@ pub fn write_item(numbers: &[u32], root: &[u8; 32], out: &mut [u8]) {
 
 // ---- Checks of lists
 
-/// Checks 2, 3, 12 and 4 of quotient and fold, apart from the lengths of what they write.
+/// Checks 2, 3, 12, 4 and 13 of quotient and fold, apart from the lengths of what they write.
 pub fn check_list(
     (m, n, k): (u32, u32, u32),
     l: u32,
@@ -191,6 +191,9 @@ pub fn check_list(
     let points = Points::check(points)?;
     if !in_order(m, n, circuit) {
         return Err(4);
+    }
+    if !leading_ones(m, n, items) {
+        return Err(13);
     }
     Ok(points)
 }

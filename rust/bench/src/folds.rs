@@ -107,6 +107,9 @@ pub fn verify(
     {
         return 3;
     }
+    if !leading_ones(m, n, items) {
+        return 13;
+    }
     if !challenge_fits(l, challenge) {
         return 5;
     }

@@ -36,8 +36,8 @@ fn in_order(list: &[u8], rows: u32, columns: u32) -> bool {
     })
 }
 
-/// Checks 1 and 2, and check 3 of the pairs: the sizes and counts, or the number of the check.
-fn pairs(sheet: &[u8], lengths_fit: bool) -> Result<[u32; 7], u32> {
+/// Checks 1 and 2, and check 3 of the pairs: the sizes and counts, and whether check 13 passes; or the number of the check.
+fn pairs(sheet: &[u8], lengths_fit: bool) -> Result<([u32; 7], bool), u32> {
     let (mut items, mut wits) = ([0; PAIRS * ITEM_BYTES], [0; PAIRS * 4 * WITNESS]);
     let mut read = Sheet::new(&mut [], &mut [], &mut [], &mut items, &mut wits);
     if scan(sheet, &mut read).is_none() {
@@ -52,11 +52,13 @@ fn pairs(sheet: &[u8], lengths_fit: bool) -> Result<[u32; 7], u32> {
     let item = |item: &[u8]| {
         item[..4 * numbers].chunks_exact(4).all(|bytes| u32::from_le_bytes(bytes.try_into().unwrap()) < P)
     };
-    if !each.all(item) || !below(read.wits.read()) {
+    if !each.clone().all(item) || !below(read.wits.read()) {
         return Err(3);
     }
+    let first = 4 * (1 + m as usize);
+    let leading_ones = each.all(|item| item[first..first + 4] == 1u32.to_le_bytes());
     let [a, b, c] = [0, 1, 2].map(|list| read.entries[list].count as u32 / 3);
-    Ok([m, n, k, a, b, c, read.pairs as u32])
+    Ok(([m, n, k, a, b, c, read.pairs as u32], leading_ones))
 }
 
 /// Checks 3 and 4 of the circuit, behind those.
@@ -89,13 +91,16 @@ pub fn read(
     let lengths_fit = [a.len(), b.len(), c.len()] == [12 * ENTRIES; 3]
         && items.len() == PAIRS * ITEM_BYTES
         && wits.len() == PAIRS * 4 * WITNESS;
-    let sizes = match pairs(sheet, lengths_fit) {
-        Ok(sizes) => sizes,
+    let (sizes, leading_ones) = match pairs(sheet, lengths_fit) {
+        Ok(read) => read,
         Err(answer) => return (answer, [0; 7]),
     };
     match circuit(sheet) {
         0 => {}
         answer => return (answer, [0; 7]),
+    }
+    if !leading_ones {
+        return (13, [0; 7]);
     }
     scan(sheet, &mut Sheet::new(a, b, c, items, wits));
     (0, sizes)

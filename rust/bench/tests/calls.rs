@@ -1,23 +1,49 @@
-//! The plain calls beside the reference: without points, with points that are lent, and with points that check 12 refuses.
+//! The plain calls beside the reference: without points and with points that are lent; with points that check 12 refuses,
+//! and first inputs that check 13 refuses, alone and with later checks failing too. And the plain reader of sheets.
 
-use bench::{calls, points::differ};
-use lomvuze_samples::{library, points, Call, Comparison, Honest, Library, Part, Random, NAMES, REFERENCE};
+use bench::{calls, plain_sheet, points::differ};
+use lomvuze_reference::sheet::{self, write};
+use lomvuze_samples::sheet::damage::failing;
+use lomvuze_samples::sheet::{accepted, Buffers, Shape};
+use lomvuze_samples::{library, points, Call, Comparison, Honest, Library, Random, NAMES, REFERENCE};
 
 const PLAIN: Library = library!(calls);
 
 #[test]
-fn points_that_are_lent() {
+fn points_and_first_inputs() {
     let mut random = Random::new(1);
     let mut comparison = Comparison::new(&PLAIN, &REFERENCE);
     for name in NAMES {
         for lent in [vec![], points::built_in(64), points::different(&mut random, 64)] {
             let list = Honest::random(&mut random, 2, 3, 64, 2).lent(lent);
-            let mut call = Call::over(&mut random, name, list, 3);
+            let call = Call::over(&mut random, name, list, 3);
             assert_eq!(comparison.compare(&call), 0, "{name:?}");
-            if call.input_of(Part::Points).is_some() {
-                call.fail(&mut random, 12);
-                assert_eq!(comparison.compare(&call), 12, "{name:?}");
+            let checks = name.checks();
+            for (i, check) in checks.iter().enumerate().filter(|(_, check)| [12, 13].contains(*check)) {
+                for last in [i + 1, checks.len()] {
+                    let mut call = call.clone();
+                    checks[i..last].iter().rev().for_each(|check| call.fail(&mut random, *check));
+                    assert_eq!(comparison.compare(&call), *check, "{name:?}");
+                }
             }
+        }
+    }
+}
+
+#[test]
+fn sheets() {
+    let mut random = Random::new(2);
+    for _ in 0..200 {
+        let shape = Shape::small(&mut random);
+        let says = accepted(&mut random, &shape);
+        let refused = [&[2][..], &[3], &[4], &[13], &[4, 13], &[3, 13]];
+        let texts = refused.map(|checks| failing(&mut random, &says, checks));
+        for text in [write(&says)].iter().chain(&texts) {
+            let mut by_plain = Buffers::new(Buffers::LENGTHS);
+            let mut by_reference = by_plain.clone();
+            let reading = by_reference.read(sheet::read, text);
+            assert_eq!(by_plain.read(plain_sheet::read, text).0, reading.answer, "{}", text.escape_ascii());
+            assert!(by_plain == by_reference, "{}", text.escape_ascii());
         }
     }
 }

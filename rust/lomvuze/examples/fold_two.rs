@@ -28,15 +28,15 @@ fn main() -> ExitCode {
 }
 
 fn run(challenge: Challenge) -> Result<(), Refusal> {
-    // One row: w0 × w1 = x0. The columns are x0, w0 and w1; an entry is row, column and value.
-    let sizes = Sizes { m: 0, n: 1, k: 2 };
-    let circuit = Circuit::new([(0, 1, 1)], [(0, 2, 1)], [(0, 0, 1)]);
+    // One row: w0 × w1 = x1, where x0 is 1. The columns are x0, x1, w0 and w1; an entry is row, column and value.
+    let sizes = Sizes { m: 0, n: 2, k: 2 };
+    let circuit = Circuit::new([(0, 2, 1)], [(0, 3, 1)], [(0, 1, 1)]);
     // The evaluation points that were agreed on: here those of the library.
     let points = Points::built_in();
     let witnesses = [Witness::from([2, 3]), Witness::from([4, 5])];
     let items = [
-        cast(sizes, &points, &circuit, &R::default(), &PublicInputs::from([6]), &witnesses[0])?,
-        cast(sizes, &points, &circuit, &R::default(), &PublicInputs::from([20]), &witnesses[1])?,
+        cast(sizes, &points, &circuit, &R::default(), &PublicInputs::from([1, 6]), &witnesses[0])?,
+        cast(sizes, &points, &circuit, &R::default(), &PublicInputs::from([1, 20]), &witnesses[1])?,
     ];
     for (i, item) in items.iter().enumerate() {
         print_item(&format!("item {i}"), item);

@@ -81,8 +81,8 @@ impl Item {
     /// ```
     /// use lomvuze::{Item, PublicInputs, Refusal, Sizes, R};
     ///
-    /// let sizes = Sizes { m: 2, n: 1, k: 2 };
-    /// let item = Item::new(R::from([5, 6]), PublicInputs::from([34]), [7; 32]);
+    /// let sizes = Sizes { m: 2, n: 2, k: 2 };
+    /// let item = Item::new(R::from([5, 6]), PublicInputs::from([1, 34]), [7; 32]);
     /// assert_eq!(Item::from_bytes(sizes, &item.to_bytes()), Ok(item.clone()));
     /// assert_eq!(Item::from_bytes(Sizes { m: 1, ..sizes }, &item.to_bytes()), Err(Refusal::Sizes));
     /// ```

@@ -59,7 +59,7 @@
 //! | | | |
 //! |---|---|---|
 //! | m | 0 to 6 | a circuit has 2^m rows |
-//! | n | 1 to 64 | public inputs of a claim |
+//! | n | 1 to 64 | public inputs of a claim, of which the first is 1 |
 //! | k | 2, 4, 8, 16, 32 or 64 | numbers of a witness |
 //! | l | 1 to 8 | items of a fold |
 //! | t | 1 to 4k | positions at which a fold is opened; repeats are permitted |

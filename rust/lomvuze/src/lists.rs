@@ -160,7 +160,7 @@ lists! {
     /// not by whoever hands them in.
     R;
 
-    /// x of an item, the public inputs: n elements.
+    /// x of an item, the public inputs: n elements, of which the first is 1.
     PublicInputs;
 
     /// A witness: k elements.

@@ -59,10 +59,14 @@ pub enum Refusal {
 
     /// A point repeats another, or is p or more.
     Points = 12,
+
+    /// An item's first input is not 1.
+    FirstInput = 13,
 }
 
 impl Refusal {
-    /// All checks, by their numbers. A call runs its own in the order that its page gives: 12 directly after 3.
+    /// All checks, by their numbers. A call runs its own in the order that its page gives: 12 directly after 3, and 13
+    /// directly after 4 (in verifying directly after 3).
     pub const ALL: &'static [Refusal] = &[
         Refusal::Sheet,
         Refusal::Sizes,
@@ -76,6 +80,7 @@ impl Refusal {
         Refusal::Root,
         Refusal::Claim,
         Refusal::Points,
+        Refusal::FirstInput,
     ];
 
     /// The number of the check: what the call returns in C (`enum lomvuze_answer`).
@@ -99,6 +104,7 @@ impl fmt::Display for Refusal {
             Refusal::Root => "a root is not that of its witness",
             Refusal::Claim => "an item does not hold",
             Refusal::Points => "a point repeats another, or is p or more",
+            Refusal::FirstInput => "an item's first input is not 1",
         })
     }
 }

@@ -40,7 +40,7 @@ pub(crate) const MOST_NUMBERS: usize = 4 * MAX_K as usize;
 pub struct Sizes {
     /// A circuit has 2^m rows, and an item has m elements r.
     pub m: u32,
-    /// Public inputs of a claim.
+    /// Public inputs of a claim, the leading 1 among them.
     pub n: u32,
     /// Numbers of a witness. Its codeword has 4k.
     pub k: u32,

@@ -43,13 +43,13 @@ impl Circuit {
     /// ```
     /// use lomvuze::{Circuit, Entry};
     ///
-    /// // Two rows: w0 × w1 = x0 and (w0 + w1) × w1 = x1. The columns are x0, x1, w0 and w1.
+    /// // Two rows: w0 × w1 = x1 and (w0 + w1) × x0 = x2, where x0 is 1. The columns are x0, x1, x2, w0 and w1.
     /// let circuit = Circuit::new(
-    ///     [(0, 2, 1), (1, 2, 1), (1, 3, 1)],
-    ///     [(0, 3, 1), (1, 3, 1)],
-    ///     [(0, 0, 1), (1, 1, 1)],
+    ///     [(0, 3, 1), (1, 3, 1), (1, 4, 1)],
+    ///     [(0, 4, 1), (1, 0, 1)],
+    ///     [(0, 1, 1), (1, 2, 1)],
     /// );
-    /// assert_eq!(circuit.a[2], Entry { row: 1, column: 3, value: 1 });
+    /// assert_eq!(circuit.a[2], Entry { row: 1, column: 4, value: 1 });
     /// assert!(circuit.a.is_sorted());
     /// ```
     pub fn new<E: Into<Entry>>(
@@ -75,7 +75,7 @@ pub struct Item {
     pub e: u32,
     /// m elements, which give the weights of the rows.
     pub r: R,
-    /// The public inputs: n elements.
+    /// The public inputs: n elements, of which the first is 1.
     pub x: PublicInputs,
     /// The root of the tree over the witness's codeword.
     pub root: Digest,
@@ -94,12 +94,12 @@ impl Item {
     /// use lomvuze::{decide, encode, Circuit, Item, Points, PublicInputs, Refusal, Sizes, Witness, P, R};
     ///
     /// fn main() -> Result<(), Refusal> {
-    ///     // One row: w0 × w1 = x0. And 4 × 5 = 21, which no row says, with the e that makes it hold.
-    ///     let sizes = Sizes { m: 0, n: 1, k: 2 };
-    ///     let circuit = Circuit::new([(0, 1, 1)], [(0, 2, 1)], [(0, 0, 1)]);
+    ///     // One row: w0 × w1 = x1. And 4 × 5 = 21, which no row says, with the e that makes it hold.
+    ///     let sizes = Sizes { m: 0, n: 2, k: 2 };
+    ///     let circuit = Circuit::new([(0, 2, 1)], [(0, 3, 1)], [(0, 1, 1)]);
     ///     let (points, witness) = (Points::built_in(), Witness::from([4, 5]));
     ///     let root = encode(2, &points, &witness)?.root;
-    ///     let mut item = Item::new(R::default(), PublicInputs::from([21]), root);
+    ///     let mut item = Item::new(R::default(), PublicInputs::from([1, 21]), root);
     ///     item.e = P - 1;
     ///     decide(sizes, &points, &circuit, &item, &witness)?;
     ///     assert!(!item.is_fresh());

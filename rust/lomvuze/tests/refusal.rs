@@ -33,7 +33,7 @@ fn answers() -> Vec<(&'static str, u32, String)> {
 fn numbers() {
     let of_header: Vec<u32> = answers().iter().map(|(_, number, _)| *number).collect();
     let of_refusals: Vec<u32> = Refusal::ALL.iter().map(|refusal| refusal.number()).collect();
-    assert_eq!(of_refusals, (1..=12).collect::<Vec<_>>());
+    assert_eq!(of_refusals, (1..=13).collect::<Vec<_>>());
     assert_eq!(of_header, of_refusals);
     for number in (0..20).chain([u32::MAX]) {
         let refusal = Refusal::try_from(number);
@@ -63,7 +63,7 @@ fn comments() {
             (number.parse().unwrap(), words(comment))
         })
         .collect();
-    assert_eq!(comments.len(), 12);
+    assert_eq!(comments.len(), 13);
     for (_, number, comment) in answers() {
         assert_eq!(comments[&number], comment);
     }

@@ -63,6 +63,6 @@ fn conversions() {
     assert!(Entry::from((0, 9, 9)) < entry && Entry::from((1, 1, 9)) < entry);
     assert_eq!(u32::from(Challenge::from(7)), 7);
     assert_eq!(Circuit::default(), Circuit::new::<Entry>([], [], []));
-    let error: Box<dyn Error> = Refusal::try_from(13).unwrap_err().into();
-    assert_eq!(error.to_string(), "no check has the number 13");
+    let error: Box<dyn Error> = Refusal::try_from(14).unwrap_err().into();
+    assert_eq!(error.to_string(), "no check has the number 14");
 }

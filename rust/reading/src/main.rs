@@ -18,10 +18,12 @@ use std::env;
 use world::{Target, World};
 
 /// The theorems, as file and name.
-const THEOREMS: [(&str, &str); 5] = [
+const THEOREMS: [(&str, &str); 7] = [
     ("theory/proofs/QuotientStated", "quotient-theorem"),
     ("theory/proofs/FirstStatement", "first-statement"),
     ("theory/proofs/SecondStatement", "second-statement"),
+    ("theory/proofs/LeadingOne", "verified-never-13"),
+    ("theory/proofs/LeadingOne", "folded-never-13"),
     ("tree/proofs/Positions", "opening-fixes-position"),
     ("roundtrip/proofs/RoundTrip", "read-written"),
 ];

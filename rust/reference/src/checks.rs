@@ -5,7 +5,7 @@
 
 use crate::claims::{self, Circuit, Entry, Item};
 use crate::code;
-use crate::field::{Element, P};
+use crate::field::{Element, ONE, P};
 use crate::sha256::Digest;
 use crate::tree;
 use std::ops::RangeInclusive;
@@ -181,11 +181,21 @@ pub(crate) fn check_points(lent: &[u8], k: usize) -> Result<Vec<Element>, Refusa
     Ok(points)
 }
 
-// ---- Checks 4 to 6.
+// ---- Checks 4, 13, 5 and 6.
 
 /// 4: every entry is inside rows and columns and in order.
 pub(crate) fn check_circuit(circuit: &Circuit, m: usize, n: usize, k: usize) -> Result<(), Refusal> {
     check(4, circuit.is_in_order(1 << m, n + k))
+}
+
+/// 13: the first of an item's inputs is 1.
+pub(crate) fn check_first_input(x: &[Element]) -> Result<(), Refusal> {
+    check(13, x[0] == ONE)
+}
+
+/// 13, over every item.
+pub(crate) fn check_first_inputs(items: &[Item]) -> Result<(), Refusal> {
+    items.iter().try_for_each(|item| check_first_input(&item.x))
 }
 
 /// 5: the challenge is not below l and below p.

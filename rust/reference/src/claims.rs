@@ -38,7 +38,8 @@ impl Circuit {
     }
 }
 
-/// An item: a claimed value e, a point r of m elements, n public inputs x, and a root.
+/// An item: a claimed value e, a point r of m elements, n public inputs x, of which the calls ask that the first is 1,
+/// and a root.
 #[derive(Clone, PartialEq, Debug)]
 pub struct Item {
     pub e: Element,

@@ -4,8 +4,8 @@
 //! looked at.
 
 use crate::checks::{
-    check, check_circuit, element, element_bytes, item_bytes, item_length, size_k, size_m, size_n, Refusal,
-    MOST_ENTRIES,
+    check, check_circuit, check_first_inputs, element, element_bytes, item_bytes, item_length, size_k,
+    size_m, size_n, Refusal, MOST_ENTRIES,
 };
 use crate::claims::{self, Circuit, Entry, Item};
 use crate::field::Element;
@@ -21,7 +21,7 @@ pub const ITEMS_LENGTH: usize = MOST_PAIRS * item_length(6, 64);
 /// The length of the buffer for witnesses.
 pub const WITNESSES_LENGTH: usize = MOST_PAIRS * 4 * 64;
 
-/// What a sheet says, with any numbers of 32 bits, before checks 2 to 4.
+/// What a sheet says, with any numbers of 32 bits, before checks 2, 3, 4 and 13.
 #[derive(Clone, PartialEq, Debug)]
 pub struct Sheet {
     /// m, n and k.
@@ -131,7 +131,7 @@ fn root(field: &[u8]) -> Result<Digest, Refusal> {
     Ok(std::array::from_fn(|i| 16 * digit(2 * i) + digit(2 * i + 1)))
 }
 
-// ---- Checks 2 to 4.
+// ---- Checks 2, 3, 4 and 13.
 
 /// The claims of a sheet that passes.
 struct Claims {
@@ -141,7 +141,7 @@ struct Claims {
     witnesses: Vec<Vec<Element>>,
 }
 
-/// Runs checks 1 to 4, each over the whole sheet before the next. Check 2 takes in whether the buffers have
+/// Runs checks 1 to 4 and 13, each over the whole sheet before the next. Check 2 takes in whether the buffers have
 /// their lengths.
 fn accept(sheet: &[u8], lengths_fit: bool) -> Result<Claims, Refusal> {
     let Sheet { size, a, b, c, pairs, end } = collect(sheet)?;
@@ -154,10 +154,11 @@ fn accept(sheet: &[u8], lengths_fit: bool) -> Result<Claims, Refusal> {
     check(2, lengths_fit)?;
 
     let circuit = Circuit { a: with_elements(&a)?, b: with_elements(&b)?, c: with_elements(&c)? };
-    let items = pairs.iter().map(|pair| item(pair, m)).collect::<Result<_, _>>()?;
+    let items: Vec<Item> = pairs.iter().map(|pair| item(pair, m)).collect::<Result<_, _>>()?;
     let witnesses = pairs.iter().map(|pair| elements(&pair.witness)).collect::<Result<_, _>>()?;
 
     check_circuit(&circuit, m, n, k)?;
+    check_first_inputs(&items)?;
     Ok(Claims { size, circuit, items, witnesses })
 }
 
@@ -180,7 +181,7 @@ fn item(pair: &Pair, m: usize) -> Result<Item, Refusal> {
 // ---- The reader and the listing.
 
 /// Reads a sheet into buffers of the greatest lengths, from the front and without gaps; what lies beyond
-/// stays as it was. Checks 1 to 4; a refusal writes nothing.
+/// stays as it was. Checks 1 to 4 and 13; a refusal writes nothing.
 pub fn read(
     sheet: &[u8],
     a: &mut [u8],

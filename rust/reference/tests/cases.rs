@@ -1,4 +1,4 @@
-//! The scope paper's cases C1 to C10. The circuit is w0 × w1 = x0.
+//! The scope paper's cases C1 to C10, with 1 as first input. The circuit is w0 × w1 = x1.
 
 use lomvuze_reference::claims::{self, Circuit, Entry, Item};
 use lomvuze_reference::code;
@@ -19,7 +19,7 @@ fn numbers(elements: &[Element]) -> Vec<u32> {
 
 fn circuit() -> Circuit {
     let one = |column| vec![Entry { row: 0, column, value: element(1) }];
-    Circuit { a: one(1), b: one(2), c: one(0) }
+    Circuit { a: one(2), b: one(3), c: one(1) }
 }
 
 /// The root of a witness at the built-in points.
@@ -27,14 +27,15 @@ fn root(w: &[Element]) -> Digest {
     code::root(&code::built_in_points(w.len()), w)
 }
 
-/// The item and the witness of x; w with e = 0 and m = 0.
+/// The item and the witness of (1, x; w) with e = 0 and m = 0.
 fn claim(x: u32, w: [u32; 2]) -> (Item, Vec<Element>) {
     let w = elements(&w);
-    (Item { e: ZERO, r: vec![], x: elements(&[x]), root: root(&w) }, w)
+    (Item { e: ZERO, r: vec![], x: elements(&[1, x]), root: root(&w) }, w)
 }
 
+/// The value of (1, x; w).
 fn value(x: u32, w: [u32; 2]) -> u32 {
-    claims::value(&circuit(), &[], &elements(&[x]), &elements(&w)).number()
+    claims::value(&circuit(), &[], &elements(&[1, x]), &elements(&w)).number()
 }
 
 /// (x, w, e) of the fold at a.
@@ -69,18 +70,18 @@ fn c5_c6_c7_fold() {
     let (items, witnesses): (Vec<_>, Vec<_>) = [claim(6, [2, 3]), claim(20, [4, 5])].into_iter().unzip();
     let quotient = numbers(&claims::quotient(&circuit(), &items, &witnesses).unwrap());
     assert_eq!(quotient, [4]);
-    assert_eq!(fold(&items, &witnesses, &quotient, 2), (vec![34], vec![6, 7], 8));
-    assert_eq!(fold(&items, &witnesses, &quotient, 3), (vec![48], vec![8, 9], 24));
+    assert_eq!(fold(&items, &witnesses, &quotient, 2), (vec![1, 34], vec![6, 7], 8));
+    assert_eq!(fold(&items, &witnesses, &quotient, 3), (vec![1, 48], vec![8, 9], 24));
 }
 
 #[test]
 fn c8_an_item_that_does_not_hold() {
     let (items, witnesses): (Vec<_>, Vec<_>) = [claim(6, [2, 3]), claim(21, [4, 5])].into_iter().unzip();
     assert!(claims::quotient(&circuit(), &items, &witnesses).is_none());
-    assert_eq!(fold(&items, &witnesses, &[3], 2), (vec![36], vec![6, 7], 6));
+    assert_eq!(fold(&items, &witnesses, &[3], 2), (vec![1, 36], vec![6, 7], 6));
     assert_eq!(value(36, [6, 7]), 6);
     let (x, w, e) = fold(&items, &witnesses, &[3], 3);
-    assert_eq!(value(x[0], [w[0], w[1]]), 21);
+    assert_eq!((x[0], value(x[1], [w[0], w[1]])), (1, 21));
     assert_eq!(e, 18);
 }
 
@@ -97,7 +98,7 @@ fn c10_one_item() {
     let (item, w) = claim(6, [2, 3]);
     let (items, witnesses) = ([item], [w]);
     assert_eq!(claims::quotient(&circuit(), &items, &witnesses).unwrap(), []);
-    assert_eq!(fold(&items, &witnesses, &[], 1), (vec![6], vec![2, 3], 0));
+    assert_eq!(fold(&items, &witnesses, &[], 1), (vec![1, 6], vec![2, 3], 0));
     assert_eq!(root(&claims::fold_witness(&witnesses, element(1))), items[0].root);
 }
 
@@ -136,6 +137,6 @@ fn quotient_describes_the_value() {
     assert_eq!(quotient.len(), claims::quotient_count(0, 3));
     for a in 3..20 {
         let (x, w, e) = fold(&items, &witnesses, &numbers(&quotient), a);
-        assert_eq!(value(x[0], [w[0], w[1]]), e);
+        assert_eq!((x[0], value(x[1], [w[0], w[1]])), (1, e));
     }
 }

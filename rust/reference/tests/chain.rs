@@ -108,3 +108,22 @@ fn damaged_folds_are_refused() {
         assert_eq!(damaged.decide(&REFERENCE, &list), 11);
     }
 }
+
+/// That of an item is 13. That of the new item is 7 in verifying, and 13 in deciding.
+#[test]
+fn other_first_inputs_are_refused() {
+    let mut random = Random::new(5);
+    for _ in 0..20 {
+        let list = Honest::of_small_size(&mut random);
+        let chain = random_chain(&mut random, &list);
+        let first = 4 + 4 * list.m as usize;
+
+        let mut other = list.clone();
+        bump(&mut other.items, random.below(list.l as usize) * list.item_length() + first);
+        assert_eq!((chain.verify(&REFERENCE, &other), chain.decide(&REFERENCE, &other)), (13, 0));
+
+        let mut damaged = chain.clone();
+        bump(&mut damaged.new_item, first);
+        assert_eq!((damaged.verify(&REFERENCE, &list), damaged.decide(&REFERENCE, &list)), (7, 13));
+    }
+}

@@ -3,7 +3,7 @@
 use super::calls;
 use lomvuze_samples::bytes;
 
-/// A fold of (6; 2, 3) and (20; 4, 5) under the circuit w0 × w1 = x0, with every buffer that a call takes or
+/// A fold of (1, 6; 2, 3) and (1, 20; 4, 5) under the circuit w0 × w1 = x1, with every buffer that a call takes or
 /// writes. Output buffers hold 0xAA before a call.
 #[derive(Clone, PartialEq, Debug)]
 pub struct Buffers {
@@ -37,7 +37,7 @@ pub struct Buffers {
     pub ordered: Vec<u8>,
 }
 
-pub const ITEM: usize = 4 + 4 + 32;
+pub const ITEM: usize = 4 + 8 + 32;
 pub const OPENING: usize = 4 + 32 * 3;
 
 impl Buffers {
@@ -45,17 +45,17 @@ impl Buffers {
     fn start(points: Vec<u8>) -> Buffers {
         Buffers {
             m: 0,
-            n: 1,
+            n: 2,
             k: 2,
             l: 2,
             t: 3,
             challenge: 2,
             points,
-            a: bytes(&[0, 1, 1]),
-            b: bytes(&[0, 2, 1]),
-            c: bytes(&[0, 0, 1]),
+            a: bytes(&[0, 2, 1]),
+            b: bytes(&[0, 3, 1]),
+            c: bytes(&[0, 1, 1]),
             r: vec![],
-            x: bytes(&[6]),
+            x: bytes(&[1, 6]),
             w: bytes(&[2, 3]),
             items: vec![],
             witnesses: bytes(&[2, 3, 4, 5]),
@@ -86,7 +86,7 @@ impl Buffers {
         let mut all = fresh.clone();
         assert_eq!(all.cast(), 0);
         let mut items = all.item.clone();
-        all.x = bytes(&[20]);
+        all.x = bytes(&[1, 20]);
         all.w = bytes(&[4, 5]);
         assert_eq!(all.cast(), 0);
         items.extend(&all.item);
@@ -110,11 +110,17 @@ impl Buffers {
 
     /// Gives the new item the root and the openings of item 1.
     pub fn show_item_1_as_the_new_one(&mut self) {
-        self.item_in.splice(8.., self.items[ITEM + 8..].to_vec());
+        self.item_in.splice(ITEM - 32.., self.items[2 * ITEM - 32..].to_vec());
         for q in 0..3 {
             let opening = self.openings_in[(3 * q + 1) * OPENING..][..OPENING].to_vec();
             self.openings_in[(3 * q + 2) * OPENING..][..OPENING].copy_from_slice(&opening);
         }
+    }
+
+    /// The first inputs: of x, of both items and of the new one.
+    pub fn first_inputs(&mut self) -> [&mut [u8]; 4] {
+        let (item_0, item_1) = self.items.split_at_mut(ITEM);
+        [&mut self.x, &mut item_0[4..], &mut item_1[4..], &mut self.item_in[4..]]
     }
 
     pub fn encode(&mut self) -> u32 {

@@ -1,4 +1,4 @@
-//! Checks 3 to 11: what the buffers hold.
+//! Checks 3 to 11: what the buffers hold. Checks 12 and 13 have files of their own.
 
 use super::buffers::*;
 use super::calls;
@@ -15,14 +15,14 @@ fn elements_below_p() {
         (|all| &mut all.a[8..], [0, 3, 3, 3, 0, 0, 0, 3]),
         (|all| &mut all.b[8..], [0, 3, 3, 3, 0, 0, 0, 3]),
         (|all| &mut all.c[8..], [0, 3, 3, 3, 0, 0, 0, 3]),
-        (|all| &mut all.x, [0, 3, 0, 0, 0, 0, 0, 0]),
+        (|all| &mut all.x[4..], [0, 3, 0, 0, 0, 0, 0, 0]),
         (|all| &mut all.w[4..], [3, 3, 0, 0, 3, 0, 0, 0]),
         (|all| &mut all.items[ITEM..], [0, 0, 3, 3, 0, 0, 3, 0]),
-        (|all| &mut all.items[4..], [0, 0, 3, 3, 0, 0, 3, 0]),
+        (|all| &mut all.items[8..], [0, 0, 3, 3, 0, 0, 3, 0]),
         (|all| &mut all.witnesses[12..], [0, 0, 3, 3, 0, 0, 0, 0]),
         (|all| &mut all.openings_in[8 * OPENING..], [0, 0, 0, 0, 0, 0, 3, 0]),
         (|all| &mut all.quotient_in, [0, 0, 0, 0, 0, 0, 3, 0]),
-        (|all| &mut all.item_in[4..], [0, 0, 0, 0, 0, 0, 3, 3]),
+        (|all| &mut all.item_in[8..], [0, 0, 0, 0, 0, 0, 3, 3]),
         (|all| &mut all.witness_in, [0, 0, 0, 0, 0, 0, 0, 3]),
     ];
     for (i, (field, expected)) in fields.into_iter().enumerate() {
@@ -33,7 +33,8 @@ fn elements_below_p() {
 /// r counts too, in an item with m = 1.
 #[test]
 fn r_below_p() {
-    let cast = |r| calls::cast(1, 1, 2, &[], &[], &[], &[], &bytes(&[r]), &[0; 4], &[0; 8], &mut [0; 44]);
+    let cast =
+        |r| calls::cast(1, 1, 2, &[], &[], &[], &[], &bytes(&[r]), &bytes(&[1]), &[0; 8], &mut [0; 44]);
     assert_eq!((cast(P - 1), cast(P)), (0, 3));
 }
 
@@ -45,7 +46,7 @@ fn entries_inside_and_in_order() {
     for list in [(|all| &mut all.a) as Buffer, |all| &mut all.b, |all| &mut all.c] {
         let with = |entries: &[u32]| answers(|all| *list(all) = bytes(entries));
         assert_eq!(with(&[1, 0, 1]), expected, "a row too high");
-        assert_eq!(with(&[0, 3, 1]), expected, "a column too high");
+        assert_eq!(with(&[0, 4, 1]), expected, "a column too high");
         assert_eq!(with(&[0, 1, 0, 0, 1, 0]), expected, "an entry twice");
         assert_eq!(with(&[0, 2, 0, 0, 1, 0]), expected, "columns descend");
         assert_eq!(with(&[u32::MAX, 0, 1]), expected);
@@ -53,7 +54,8 @@ fn entries_inside_and_in_order() {
     }
     // Row first, then column.
     let cast = |entries: &[u32]| {
-        calls::cast(1, 1, 2, &[], &bytes(entries), &[], &[], &[0; 4], &[0; 4], &[0; 8], &mut [0; 44])
+        let x = bytes(&[1]);
+        calls::cast(1, 1, 2, &[], &bytes(entries), &[], &[], &[0; 4], &x, &[0; 8], &mut [0; 44])
     };
     assert_eq!(cast(&[0, 2, 1, 1, 0, 1]), 0);
     assert_eq!(cast(&[1, 0, 1, 0, 2, 1]), 4);
@@ -86,7 +88,7 @@ fn positions() {
 #[test]
 fn new_items() {
     assert_eq!(answer(VERIFY, |all| put(&mut all.item_in, 0, 9)), 7);
-    assert_eq!(answer(VERIFY, |all| put(&mut all.item_in, 4, 35)), 7);
+    assert_eq!(answer(VERIFY, |all| put(&mut all.item_in, 8, 35)), 7);
     assert_eq!(answer(VERIFY, |all| put(&mut all.quotient_in, 0, 5)), 7);
     assert_eq!(answer(VERIFY, |all| put(&mut all.items, ITEM, 1)), 7);
     // Z(2) = 2: the quotient and e may change together.
@@ -120,7 +122,7 @@ fn roots_and_claims() {
     assert_eq!(answers(|all| all.items[ITEM - 1] ^= 1), [0, 0, 10, 10, 0, 0, 8, 0]);
     assert_eq!(answers(|all| put(&mut all.witnesses, 12, 6)), [0, 0, 10, 10, 0, 0, 0, 0]);
     assert_eq!(answers(|all| all.item_in[ITEM - 1] ^= 1), [0, 0, 0, 0, 0, 0, 8, 10]);
-    assert_eq!(answers(|all| put(&mut all.x, 0, 7)), [0, 11, 0, 0, 0, 0, 0, 0]);
-    assert_eq!(answers(|all| put(&mut all.items, ITEM + 4, 21)), [0, 0, 11, 11, 0, 0, 7, 0]);
+    assert_eq!(answers(|all| put(&mut all.x, 4, 7)), [0, 11, 0, 0, 0, 0, 0, 0]);
+    assert_eq!(answers(|all| put(&mut all.items, ITEM + 8, 21)), [0, 0, 11, 11, 0, 0, 7, 0]);
     assert_eq!(answers(|all| put(&mut all.item_in, 0, 9)), [0, 0, 0, 0, 0, 0, 7, 11]);
 }

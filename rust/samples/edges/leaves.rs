@@ -87,14 +87,14 @@ fn openings_of_a_constant_codeword() {
         let w = [vec![7], vec![0; k as usize - 1]].concat();
         let values = values_alone(&w);
         let mut item = [0; ITEM];
-        assert_eq!(calls::cast(0, 1, k, &[], &[], &[], &[], &[], &[0; 4], &bytes(&w), &mut item), 0);
+        assert_eq!(calls::cast(0, 2, k, &[], &[], &[], &[], &[], &bytes(&[1, 0]), &bytes(&w), &mut item), 0);
         let openings = open_all(k, &bytes(&w));
         for own in filed {
             assert_eq!(tree::path(own, &values), tree::path(0, &values));
             // A fold of one item gives the item back.
             let shown = openings[own].repeat(2);
             for position in 0..4 * k {
-                let answer = calls::verify(0, 1, k, 1, 1, 1, &item, &bytes(&[position]), &[], &item, &shown);
+                let answer = calls::verify(0, 2, k, 1, 1, 1, &item, &bytes(&[position]), &[], &item, &shown);
                 assert_eq!(answer, if position as usize == own { 0 } else { 8 }, "{own} at {position}");
             }
         }

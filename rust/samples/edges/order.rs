@@ -7,20 +7,20 @@ use lomvuze_samples::{bytes, put};
 /// The checks of each call.
 const CONCERNS: [&[u32]; 8] = [
     &[2, 3, 12],
-    &[2, 3, 12, 4, 11],
-    &[2, 3, 12, 4, 10, 11],
-    &[2, 3, 12, 4, 5, 10, 11],
+    &[2, 3, 12, 4, 13, 11],
+    &[2, 3, 12, 4, 13, 10, 11],
+    &[2, 3, 12, 4, 13, 5, 10, 11],
     &[2, 3, 12, 6],
     &[2],
-    &[2, 3, 5, 6, 7, 8, 9],
-    &[2, 3, 12, 4, 10, 11],
+    &[2, 3, 13, 5, 6, 7, 8, 9],
+    &[2, 3, 12, 4, 13, 10, 11],
 ];
 
 /// Changes that make the checks fail one by one, from the last to the first: each makes its check fail, in the calls
 /// that run it, and none before it. The answer of a call is the number of the last change that concerns it.
 #[test]
 fn the_first_failing_check_answers() {
-    let steps: [(u32, Change); 11] = [
+    let steps: [(u32, Change); 12] = [
         (11, |all| put(&mut all.c, 8, 2)),
         (10, |all| {
             put(&mut all.witnesses, 0, 9);
@@ -31,6 +31,7 @@ fn the_first_failing_check_answers() {
         (7, |all| put(&mut all.item_in, 0, 1)),
         (6, |all| put(&mut all.positions, 8, 8)),
         (5, |all| all.challenge = 0),
+        (13, |all| all.first_inputs().into_iter().for_each(|x| put(x, 0, 2))),
         (4, |all| {
             for list in [&mut all.a, &mut all.b, &mut all.c] {
                 put(list, 0, 1);

@@ -174,14 +174,15 @@ fn no_point_repeats_another() {
     }
 }
 
-/// 12 comes after 2 and 3, and before 4, 5, 6, 10 and 11. A point of p or more is 12 and never 3.
+/// 12 comes after 2 and 3, and before 4, 13, 5, 6, 10 and 11. A point of p or more is 12 and never 3.
 #[test]
 fn the_place_of_check_12() {
-    let others: [(u32, Change, [u32; 8]); 7] = [
+    let others: [(u32, Change, [u32; 8]); 8] = [
         (2, |all| all.k = 4, [2; 8]),
         (3, |all| put(&mut all.w, 4, P), [3, 3, 0, 0, 3, 0, 0, 0]),
         (3, |all| put(&mut all.a, 8, P), [0, 3, 3, 3, 0, 0, 0, 3]),
         (4, |all| put(&mut all.a, 0, 1), [0, 4, 4, 4, 0, 0, 0, 4]),
+        (13, |all| all.first_inputs().into_iter().for_each(|x| put(x, 0, 0)), [0, 13, 13, 13, 0, 0, 13, 13]),
         (5, |all| all.challenge = 1, [0, 0, 0, 5, 0, 0, 5, 0]),
         (6, |all| put(&mut all.positions, 8, 8), [0, 0, 0, 0, 6, 0, 6, 0]),
         (11, |all| put(&mut all.c, 8, 2), [0, 11, 11, 11, 0, 0, 0, 11]),

@@ -4,6 +4,11 @@ use super::buffers::*;
 use super::calls;
 use lomvuze_samples::bytes;
 
+/// n inputs: 1, and 0 behind it.
+fn inputs(n: u32) -> Vec<u8> {
+    bytes(&(0..n).map(|i| (i == 0) as u32).collect::<Vec<_>>())
+}
+
 #[test]
 fn k_is_a_power_of_two_from_2_to_64() {
     let encode = |k: u32| {
@@ -24,7 +29,7 @@ fn sizes_and_counts() {
     let change_m = |m| answers(move |all| all.m = m);
     assert_eq!(change_m(7), [0, 2, 2, 2, 0, 0, 2, 2]);
     assert_eq!(change_m(u32::MAX), [0, 2, 2, 2, 0, 0, 2, 2]);
-    for n in [0, 2, 65, u32::MAX] {
+    for n in [0, 1, 3, 65, u32::MAX] {
         assert_eq!(answers(|all| all.n = n), [0, 2, 2, 2, 0, 0, 2, 2]);
     }
     for l in [0, 1, 3, 9, u32::MAX] {
@@ -40,7 +45,7 @@ fn sizes_and_counts() {
 fn largest_sizes() {
     let cast = |m: u32, n: u32| {
         let mut item = vec![0; (4 + 4 * m + 4 * n + 32) as usize];
-        let (r, x) = (vec![0; 4 * m as usize], vec![0; 4 * n as usize]);
+        let (r, x) = (vec![0; 4 * m as usize], inputs(n));
         calls::cast(m, n, 2, &[], &[], &[], &[], &r, &x, &[0; 8], &mut item)
     };
     assert_eq!((cast(0, 1), cast(6, 64), cast(7, 64), cast(6, 65), cast(6, 0)), (0, 0, 2, 2, 2));
@@ -54,7 +59,7 @@ fn largest_counts() {
         let items = one.items[..ITEM].repeat(l);
         let witnesses = bytes(&[2, 3]).repeat(l);
         let mut quotient = vec![0; 4 * l.saturating_sub(1)];
-        calls::quotient(0, 1, 2, l as u32, &[], &one.a, &one.b, &one.c, &items, &witnesses, &mut quotient)
+        calls::quotient(0, 2, 2, l as u32, &[], &one.a, &one.b, &one.c, &items, &witnesses, &mut quotient)
     };
     assert_eq!([0, 1, 8, 9].map(quotient), [2, 0, 0, 2]);
     let open = |t: usize| {
@@ -115,7 +120,7 @@ fn entry_counts() {
         let [a, b, c] =
             entries.map(|count| bytes(&(0..count).flat_map(|i| [i / 66, i % 66, 0]).collect::<Vec<_>>()));
         let mut item = vec![0; 4 + 24 + 256 + 32];
-        calls::cast(6, 64, 2, &[], &a, &b, &c, &[0; 24], &[0; 256], &[0; 8], &mut item)
+        calls::cast(6, 64, 2, &[], &a, &b, &c, &[0; 24], &inputs(64), &[0; 8], &mut item)
     };
     assert_eq!(cast([1024, 1024, 1024]), 0);
     assert_eq!([cast([1025, 0, 0]), cast([0, 1025, 0]), cast([0, 0, 1025])], [2, 2, 2]);

@@ -159,4 +159,15 @@ impl Call {
             _ => (0..length).step_by(4).collect(),
         }
     }
+
+    /// Where input i has first inputs, for lengths that fit.
+    pub fn first_inputs_of(&self, i: usize) -> Vec<usize> {
+        match self.name.inputs()[i] {
+            X => vec![0],
+            Item | Items => {
+                (4 + 4 * self.number('m')..self.inputs[i].len()).step_by(self.item_length()).collect()
+            }
+            _ => vec![],
+        }
+    }
 }

@@ -36,8 +36,7 @@ fn stored_calls(name: Name) -> Vec<(PathBuf, Vec<u8>)> {
     for check in name.checks().iter().filter(|check| **check != 2) {
         let mut call = call.clone();
         call.fail(&mut random, *check);
-        assert_eq!(call.clone().run(&REFERENCE), *check);
-        add(&check.to_string(), input(&call));
+        add(&check.to_string(), seed(&check.to_string(), &call).1);
     }
 
     let takes_points = call.input_of(Part::Points).is_some();
@@ -56,18 +55,47 @@ fn stored_calls(name: Name) -> Vec<(PathBuf, Vec<u8>)> {
     if takes_points {
         files.extend(stored_points(&mut random, name));
     }
+    if name.checks().contains(&13) {
+        files.extend(stored_first_inputs(&mut random, name));
+    }
     files
+}
+
+/// Calls with a first input other than 1: of the first of three items and of the last, where a call takes several; for
+/// verifying, of the new item.
+fn stored_first_inputs(random: &mut Random, name: Name) -> Vec<(PathBuf, Vec<u8>)> {
+    let list = Honest::with_entries(random, 1, 2, 4, 3, [3, 3, 3]);
+    let call = Call::over(random, name, list, 2);
+    let mut files = vec![];
+    let mut add = |what: &str, i: usize, at: usize, number: u32| {
+        let mut call = call.clone();
+        put(&mut call.inputs[i], at, number);
+        files.push(seed(what, &call));
+    };
+    if let Some(items) = call.input_of(Part::Items) {
+        let places = call.first_inputs_of(items);
+        add("13-first", items, places[0], 0);
+        add("13-last", items, places[2], P - 1);
+    }
+    if name == Name::Verify {
+        let new = call.input_of(Part::Item).unwrap();
+        add("7-new-input", new, call.first_inputs_of(new)[0], 2);
+    }
+    files
+}
+
+/// A call as a file, whose name starts with its answer.
+fn seed(what: &str, call: &Call) -> (PathBuf, Vec<u8>) {
+    let answer = call.clone().run(&REFERENCE);
+    assert_eq!(what.split('-').next(), Some(&answer.to_string()[..]));
+    (folder(call.name).join(what), input(call))
 }
 
 /// Calls that are lent points: random ones at the greatest sizes and at small ones, and the built-in ones; with points
 /// that repeat another or are p or more, and of other lengths.
 fn stored_points(random: &mut Random, name: Name) -> Vec<(PathBuf, Vec<u8>)> {
     let mut files = vec![];
-    let mut add = |what: &str, call: &Call| {
-        let answer = call.clone().run(&REFERENCE);
-        assert_eq!(what.split('-').next(), Some(&answer.to_string()[..]));
-        files.push((folder(name).join(what), input(call)));
-    };
+    let mut add = |what: &str, call: &Call| files.push(seed(what, call));
     let list = Honest::with_entries(random, 6, 64, 64, 8, [16, 16, 80]).lent(points::different(random, 64));
     add("0-greatest-lent", &Call::over(random, name, list, 2));
     let list = Honest::with_entries(random, 1, 2, 4, 2, [3, 3, 3]);
@@ -96,7 +124,7 @@ fn stored_sheets() -> Vec<(PathBuf, Vec<u8>)> {
     let mut add = |what: &str, more: [isize; 5], text: &[u8]| {
         let lengths = std::array::from_fn(|i| Buffers::LENGTHS[i].wrapping_add_signed(more[i]));
         let answer = Buffers::new(lengths).read(sheet::read, text).answer;
-        assert!(what.starts_with(&answer.to_string()));
+        assert_eq!(what.split('-').next(), Some(&answer.to_string()[..]));
         files.push((PathBuf::from(SHEETS).join(what), sheet_input(more, text)));
     };
     let greatest = Shape { entries: [16, 32, 80], pairs: 2, ..GREATEST };
@@ -107,6 +135,9 @@ fn stored_sheets() -> Vec<(PathBuf, Vec<u8>)> {
     for (what, text) in EXAMPLES {
         add(what, [0; 5], text);
     }
+    // The sheet for 13 has another first input in its last item.
+    let first = str::from_utf8(EXAMPLES[0].1).unwrap().replacen("\t1\t6\t", "\t2\t6\t", 1);
+    add("13-first", [0; 5], first.as_bytes());
     add("1-longer", [1, 0, 0, 0, 0], &small[1..]);
     add("2-longer", [1, 0, 0, 0, 0], &small);
     add("2-shorter", [0, 0, 0, 0, -1], &small);
@@ -114,13 +145,14 @@ fn stored_sheets() -> Vec<(PathBuf, Vec<u8>)> {
 }
 
 /// The sheets of `examples/sheets`.
-const EXAMPLES: [(&str, &[u8]); 6] = [
+const EXAMPLES: [(&str, &[u8]); 7] = [
     ("0-printed", include_bytes!("../../../examples/sheets/printed.sheet")),
     ("0-case-8", include_bytes!("../../../examples/sheets/case-8.sheet")),
     ("1", include_bytes!("../../../examples/sheets/refused-1.sheet")),
     ("2", include_bytes!("../../../examples/sheets/refused-2.sheet")),
     ("3", include_bytes!("../../../examples/sheets/refused-3.sheet")),
     ("4", include_bytes!("../../../examples/sheets/refused-4.sheet")),
+    ("13", include_bytes!("../../../examples/sheets/refused-13.sheet")),
 ];
 
 /// So many honest calls of each name, of any size, and one of the greatest; and as many sheets.

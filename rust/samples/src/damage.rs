@@ -1,6 +1,7 @@
 //! Damage to calls: random changes, and changes that make one chosen check fail.
 
 mod another_witness;
+mod first_input;
 mod points;
 mod sizes;
 
@@ -10,12 +11,7 @@ use lomvuze_reference::field::P;
 impl Call {
     /// A random change of one argument.
     pub fn damage(&mut self, random: &mut Random) {
-        if self.name == Name::Verify && random.below(6) == 0 {
-            self.show_another_witness(random);
-            return;
-        }
-        if self.input_of(Part::Points).is_some() && random.below(8) == 0 {
-            self.lend_others(random);
+        if self.damage_of_its_own(random) {
             return;
         }
         let number = [0, 1, P - 1, P, u32::MAX, random.below(300) as u32, random.number()][random.below(7)];
@@ -57,6 +53,19 @@ impl Call {
         }
     }
 
+    /// At times, a change that only some calls know: another witness, other points, or another first input.
+    fn damage_of_its_own(&mut self, random: &mut Random) -> bool {
+        if self.name == Name::Verify && random.below(6) == 0 {
+            self.show_another_witness(random);
+            return true;
+        }
+        if self.input_of(Part::Points).is_some() && random.below(8) == 0 {
+            self.lend_others(random);
+            return true;
+        }
+        random.below(12) == 0 && self.change_first_input(random)
+    }
+
     /// Makes one of the call's checks fail and none before it, in a call that passes that check and those
     /// before it.
     pub fn fail(&mut self, random: &mut Random, check: u32) {
@@ -69,6 +78,7 @@ impl Call {
             }
             12 => self.fail_points(random),
             4 => self.fail_order(random),
+            13 => self.fail_first_inputs(random),
             5 => {
                 let a = [0, self.number('l') as u32 - 1, P, P + 1, u32::MAX][random.below(5)];
                 let i = self.place_of('a').unwrap();
@@ -86,8 +96,7 @@ impl Call {
     /// The same for the checks of new item, openings, roots and claims.
     fn fail_claims(&mut self, random: &mut Random, check: u32) {
         match check {
-            // At a permitted challenge every number of every item and every coefficient counts.
-            7 => self.change_element(random, |part| part != Part::AllOpenings),
+            7 => self.fail_new_item(random),
             8 => match random.below(4) {
                 0 => self.change_element(random, |part| part == Part::AllOpenings),
                 1 => self.change_root(random),
@@ -104,7 +113,7 @@ impl Call {
                 _ => self.change_element(random, |part| matches!(part, Part::Witness | Part::Witnesses)),
             },
             11 if self.name == Name::Cast => {
-                // The weights of all rows have the sum 1, and x_0 is not 0.
+                // The weights of all rows have the sum 1, and x_0 is 1.
                 let c = self.input_of(Part::Entries).unwrap() + 2;
                 for entry in self.inputs[c].chunks_mut(12).filter(|entry| number_at(entry, 4) == 0) {
                     put(entry, 8, (number_at(entry, 8) + 1) % P);
@@ -160,6 +169,11 @@ impl Call {
     /// Puts another element in the place of one.
     fn change_element(&mut self, random: &mut Random, of: impl Fn(Part) -> bool) {
         let (i, at) = self.element(random, of);
+        self.change_element_at(random, i, at);
+    }
+
+    /// Puts another element at a place of input i.
+    fn change_element_at(&mut self, random: &mut Random, i: usize, at: usize) {
         let by = [1, P - 1, 1 + random.below((P - 1) as usize) as u32][random.below(3)];
         let other = (number_at(&self.inputs[i], at) as u64 + by as u64) % P as u64;
         put(&mut self.inputs[i], at, other as u32);

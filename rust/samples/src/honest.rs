@@ -1,4 +1,4 @@
-//! Honest lists: items that hold and match with their witnesses, for one circuit.
+//! Honest lists: items that have 1 as first input, and hold and match with their witnesses, for one circuit.
 
 use crate::{bytes, number_at, points, Random};
 use lomvuze_reference::claims::{self, Circuit, Entry};
@@ -43,7 +43,7 @@ impl Honest {
         let (mut items, mut witnesses) = (vec![], vec![]);
         for _ in 0..l {
             let (r, x, w) =
-                (random.elements(m as usize), random.elements(n as usize), random.elements(k as usize));
+                (random.elements(m as usize), random.inputs(n as usize), random.elements(k as usize));
             let e = claims::value(&circuit, &r, &x, &w);
             items.extend([element_bytes(&[e]), element_bytes(&r), element_bytes(&x)].concat());
             items.extend(code::root(&points, &w));

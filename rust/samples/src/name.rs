@@ -53,13 +53,13 @@ impl Name {
     pub fn checks(self) -> &'static [u32] {
         match self {
             Name::Encode => &[2, 3, 12],
-            Name::Cast => &[2, 3, 12, 4, 11],
-            Name::Quotient => &[2, 3, 12, 4, 10, 11],
-            Name::Fold => &[2, 3, 12, 4, 5, 10, 11],
+            Name::Cast => &[2, 3, 12, 4, 13, 11],
+            Name::Quotient => &[2, 3, 12, 4, 13, 10, 11],
+            Name::Fold => &[2, 3, 12, 4, 13, 5, 10, 11],
             Name::Open => &[2, 3, 12, 6],
             Name::Interleave => &[2],
-            Name::Verify => &[2, 3, 5, 6, 7, 8, 9],
-            Name::Decide => &[2, 3, 12, 4, 10, 11],
+            Name::Verify => &[2, 3, 13, 5, 6, 7, 8, 9],
+            Name::Decide => &[2, 3, 12, 4, 13, 10, 11],
         }
     }
 

@@ -1,6 +1,6 @@
 //! A seeded generator (Marsaglia's xorshift64*), so that every run tries the same inputs.
 
-use lomvuze_reference::field::{Element, P};
+use lomvuze_reference::field::{Element, ONE, P};
 
 pub struct Random(u64);
 
@@ -38,6 +38,11 @@ impl Random {
 
     pub fn elements(&mut self, count: usize) -> Vec<Element> {
         (0..count).map(|_| self.element()).collect()
+    }
+
+    /// Public inputs of an item: elements of which the first is 1.
+    pub fn inputs(&mut self, count: usize) -> Vec<Element> {
+        [vec![ONE], self.elements(count - 1)].concat()
     }
 
     pub fn bytes(&mut self, count: usize) -> Vec<u8> {

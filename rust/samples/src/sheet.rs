@@ -51,7 +51,7 @@ pub fn accepted(random: &mut Random, shape: &Shape) -> Sheet {
     });
     let pairs = (0..pairs)
         .map(|_| Pair {
-            numbers: numbers(random, 1 + m + n),
+            numbers: [numbers(random, 1 + m), vec![1], numbers(random, n - 1)].concat(),
             root: random.digest(),
             witness: numbers(random, k),
         })
@@ -66,15 +66,16 @@ pub fn accepted(random: &mut Random, shape: &Shape) -> Sheet {
     sheet
 }
 
-/// A sheet of this shape whose text has exactly this length: the elements get as many digits as that takes.
+/// A sheet of this shape whose text has exactly this length: the elements but the first inputs get as many digits as
+/// that takes.
 /// It is accepted unless it is too long.
 pub fn of_length(random: &mut Random, shape: &Shape, length: usize) -> Sheet {
     let mut sheet = accepted(random, shape);
-    let mut all = elements(&mut sheet);
+    let mut all = free_elements(&mut sheet);
     all.iter_mut().for_each(|element| **element = 0);
     let count = all.len();
     let missing = length - write(&sheet).len();
-    for (i, element) in elements(&mut sheet).into_iter().enumerate() {
+    for (i, element) in free_elements(&mut sheet).into_iter().enumerate() {
         let digits = 1 + missing * (i + 1) / count - missing * i / count;
         *element = with_digits(random, digits as u32);
     }
@@ -98,6 +99,23 @@ fn numbers(random: &mut Random, count: u32) -> Vec<u32> {
 pub fn elements(sheet: &mut Sheet) -> Vec<&mut u32> {
     let values = [&mut sheet.a, &mut sheet.b, &mut sheet.c].into_iter().flatten().map(|entry| &mut entry[2]);
     let pairs = sheet.pairs.iter_mut().flat_map(|pair| pair.numbers.iter_mut().chain(&mut pair.witness));
+    values.chain(pairs).collect()
+}
+
+/// The first inputs of the items of a sheet that is accepted.
+pub fn first_inputs(sheet: &mut Sheet) -> Vec<&mut u32> {
+    let first = 1 + sheet.size[0] as usize;
+    sheet.pairs.iter_mut().map(|pair| &mut pair.numbers[first]).collect()
+}
+
+/// The elements of such a sheet without the first inputs.
+fn free_elements(sheet: &mut Sheet) -> Vec<&mut u32> {
+    let first = 1 + sheet.size[0] as usize;
+    let values = [&mut sheet.a, &mut sheet.b, &mut sheet.c].into_iter().flatten().map(|entry| &mut entry[2]);
+    let pairs = sheet.pairs.iter_mut().flat_map(|pair| {
+        let (before, x) = pair.numbers.split_at_mut(first);
+        before.iter_mut().chain(&mut x[1..]).chain(&mut pair.witness)
+    });
     values.chain(pairs).collect()
 }
 

@@ -59,15 +59,15 @@ calls! {
     /// Writes the codeword of a witness and its root. Checks 2, 3 and 12.
     fn encode = lomvuze_encode(k; points, w; code_out, root_out);
 
-    /// Writes the item of an R1CS instance: r as lent, e = 0 and the root of the witness. Checks 2, 3, 12, 4 and
-    /// 11.
+    /// Writes the item of an R1CS instance: r as lent, e = 0 and the root of the witness. Checks 2, 3, 12, 4, 13
+    /// and 11.
     fn cast = lomvuze_cast(m, n, k; points, a, b, c, r, x, w; item_out);
 
-    /// Writes the quotient of l items. Checks 2, 3, 12, 4, 10 and 11.
+    /// Writes the quotient of l items. Checks 2, 3, 12, 4, 13, 10 and 11.
     fn quotient = lomvuze_quotient(m, n, k, l; points, a, b, c, items, wits; quotient_out);
 
-    /// Writes the quotient of l items, and the new item and witness for a challenge. Checks 2, 3, 12, 4, 5, 10
-    /// and 11.
+    /// Writes the quotient of l items, and the new item and witness for a challenge. Checks 2, 3, 12, 4, 13, 5,
+    /// 10 and 11.
     fn fold = lomvuze_fold(m, n, k, l, challenge; points, a, b, c, items, wits; quotient_out, item_out, wit_out);
 
     /// Writes the openings of t positions of a witness's codeword. Checks 2, 3, 12 and 6.
@@ -77,13 +77,13 @@ calls! {
     /// position and, within one, item by item: as verifying reads them. Check 2.
     fn interleave = lomvuze_interleave(k, l, t; opened; openings_out);
 
-    /// Verifies a fold of l items at t positions. Checks 2, 3 and 5 to 9.
+    /// Verifies a fold of l items at t positions. Checks 2, 3, 13 (of the l items) and 5 to 9.
     fn verify = lomvuze_verify(m, n, k, l, t, challenge; items, positions, quotient, new_item, openings;);
 
-    /// Decides an item with its witness. Checks 2, 3, 12, 4, 10 and 11.
+    /// Decides an item with its witness. Checks 2, 3, 12, 4, 13, 10 and 11.
     fn decide = lomvuze_decide(m, n, k; points, a, b, c, item, wit;);
 
     /// Reads a sheet into buffers of the greatest lengths; `sizes_out` gets m, n, k, the count of entries of A,
-    /// B and C, and the count of pairs. Checks 1 to 4.
+    /// B and C, and the count of pairs. Checks 1 to 4 and 13.
     fn read_sheet = lomvuze_read_sheet(; sheet; a_out, b_out, c_out, items_out, wits_out; sizes_out);
 }

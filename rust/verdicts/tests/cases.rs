@@ -1,13 +1,14 @@
-//! The cases of the scope paper that a call can show: the circuit w0 × w1 = x0 with m = 0, n = 1, k = 2.
+//! The cases of the scope paper that a call can show, with 1 as first input: the circuit w0 × w1 = x1 with m = 0, n = 2,
+//! k = 2.
 
 use lomvuze_reference::field::P;
 use lomvuze_samples::bytes;
 use lomvuze_verdicts as calls;
 
-const A: [u32; 3] = [0, 1, 1];
-const B: [u32; 3] = [0, 2, 1];
-const C: [u32; 3] = [0, 0, 1];
-const ITEM: usize = 4 + 4 + 32;
+const A: [u32; 3] = [0, 2, 1];
+const B: [u32; 3] = [0, 3, 1];
+const C: [u32; 3] = [0, 1, 1];
+const ITEM: usize = 4 + 8 + 32;
 const OPENING: usize = 4 + 32 * 3;
 
 fn root(w: [u32; 2]) -> Vec<u8> {
@@ -16,19 +17,20 @@ fn root(w: [u32; 2]) -> Vec<u8> {
     root
 }
 
+/// The item of (1, x; w).
 fn item(e: u32, x: u32, w: [u32; 2]) -> Vec<u8> {
-    [bytes(&[e, x]), root(w)].concat()
+    [bytes(&[e, 1, x]), root(w)].concat()
 }
 
 fn cast(x: u32, w: [u32; 2]) -> (u32, Vec<u8>) {
     let mut out = vec![0; ITEM];
     let [a, b, c] = [A, B, C].map(|entry| bytes(&entry));
-    let answer = calls::cast(0, 1, 2, &[], &a, &b, &c, &[], &bytes(&[x]), &bytes(&w), &mut out);
+    let answer = calls::cast(0, 2, 2, &[], &a, &b, &c, &[], &bytes(&[1, x]), &bytes(&w), &mut out);
     (answer, out)
 }
 
 fn decide(e: u32, x: u32, w: [u32; 2]) -> u32 {
-    calls::decide(0, 1, 2, &[], &bytes(&A), &bytes(&B), &bytes(&C), &item(e, x, w), &bytes(&w))
+    calls::decide(0, 2, 2, &[], &bytes(&A), &bytes(&B), &bytes(&C), &item(e, x, w), &bytes(&w))
 }
 
 /// Quotient, new item and new witness.
@@ -38,7 +40,7 @@ fn fold(challenge: u32, items: &[(u32, [u32; 2])]) -> [Vec<u8>; 3] {
     let (mut quotient, mut new, mut w) = (vec![0; 4 * (items.len() - 1)], vec![0; ITEM], vec![0; 8]);
     let answer = calls::fold(
         0,
-        1,
+        2,
         2,
         items.len() as u32,
         challenge,
@@ -71,7 +73,7 @@ fn c5_to_c7() {
 }
 
 /// The fold at a challenge that x, w and e combine to with quotient 3: the answers of verifying it, at all positions,
-/// and of deciding it. The items are (6; 2, 3) and (21; 4, 5), both with e 0, of which the second does not hold.
+/// and of deciding it. The items are (1, 6; 2, 3) and (1, 21; 4, 5), both with e 0, of which the second does not hold.
 fn verify_and_decide_c8(a: u32) -> (u32, u32) {
     let number = |value: u64| (value % P as u64) as u32;
     let a_64 = a as u64;
@@ -87,7 +89,7 @@ fn verify_and_decide_c8(a: u32) -> (u32, u32) {
     assert_eq!(calls::interleave(2, 2, 8, &opened, &mut openings), 0);
     let items = [item(0, 6, [2, 3]), item(0, 21, [4, 5])].concat();
     let new_item = item(e, x, w);
-    let verified = calls::verify(0, 1, 2, 2, 8, a, &items, &positions, &bytes(&[3]), &new_item, &openings);
+    let verified = calls::verify(0, 2, 2, 2, 8, a, &items, &positions, &bytes(&[3]), &new_item, &openings);
     (verified, decide(e, x, w))
 }
 
@@ -115,8 +117,8 @@ fn c9() {
 fn c10() {
     let [quotient, new_item, witness] = fold(1, &[(6, [2, 3])]);
     assert_eq!(quotient, []);
-    assert_eq!(new_item[..8], bytes(&[0, 6]));
-    assert_eq!(new_item[8..], root([2, 3]));
+    assert_eq!(new_item[..12], bytes(&[0, 1, 6]));
+    assert_eq!(new_item[12..], root([2, 3]));
     assert_eq!(new_item, cast(6, [2, 3]).1);
     assert_eq!(witness, bytes(&[2, 3]));
 }

@@ -81,7 +81,7 @@ fn greatest_sizes() {
     }
 }
 
-/// Every number that stands for an element is p - 1, and is accepted as one.
+/// Every number that stands for an element is p - 1, and is accepted as one. First inputs stay 1.
 #[test]
 fn greatest_elements() {
     let mut random = Random::new(11);
@@ -89,11 +89,12 @@ fn greatest_elements() {
         for _ in 0..100 {
             let mut call = Call::honest(&mut random, name);
             for i in 0..call.inputs.len() {
-                for at in call.elements_of(i) {
+                let first = call.first_inputs_of(i);
+                for at in call.elements_of(i).into_iter().filter(|at| !first.contains(at)) {
                     lomvuze_samples::put(&mut call.inputs[i], at, 2013265920);
                 }
             }
-            assert_ne!(comparison().compare(&call), 3);
+            assert!(![3, 13].contains(&comparison().compare(&call)));
         }
     }
 }

@@ -8,6 +8,7 @@ use lomvuze_reference::sheet::{listing, read, write, MOST_BYTES};
 use lomvuze_samples::sheet::damage::{damaged, failing, junk};
 use lomvuze_samples::sheet::{accepted, of_length, Buffers, Shape, GREATEST};
 use lomvuze_samples::Random;
+use std::collections::BTreeMap;
 
 /// The proved reader, named as the reference is.
 mod sheet {
@@ -45,7 +46,10 @@ const SHEETS: usize = 120_000;
 const EACH_ANSWER: usize = 1_000;
 
 /// How many sheets had which answer.
-type Answers = [usize; 5];
+type Answers = BTreeMap<u32, usize>;
+
+/// The checks of a sheet, in order.
+const CHECKS: [u32; 5] = [1, 2, 3, 4, 13];
 
 /// Reads a sheet by both, into buffers of these lengths, and compares.
 fn compare_into(lengths: [usize; 5], text: &[u8], answers: &mut Answers) -> u32 {
@@ -54,7 +58,7 @@ fn compare_into(lengths: [usize; 5], text: &[u8], answers: &mut Answers) -> u32 
     let reading = by_reference.read(read, text);
     assert_eq!(by_proved.read(sheet::read, text), reading, "{}", text.escape_ascii());
     assert!(by_proved == by_reference, "other bytes: {}", text.escape_ascii());
-    answers[reading.answer as usize] += 1;
+    *answers.entry(reading.answer).or_default() += 1;
     reading.answer
 }
 
@@ -75,8 +79,8 @@ fn compare_around(random: &mut Random, shape: &Shape, answers: &mut Answers) {
     let says = accepted(random, shape);
     let text = write(&says);
     assert_eq!(compare(&text, answers), 0);
-    for check in 1..=4 {
-        let later: Vec<u32> = (check + 1..=4).filter(|_| random.below(2) == 0).collect();
+    for (i, check) in CHECKS.into_iter().enumerate() {
+        let later: Vec<u32> = CHECKS[i + 1..].iter().copied().filter(|_| random.below(2) == 0).collect();
         for checks in [vec![check], [vec![check], later].concat()] {
             let text = failing(random, &says, &checks);
             let expected = if text.len() > MOST_BYTES { 1 } else { check };
@@ -96,17 +100,18 @@ fn compare_around(random: &mut Random, shape: &Shape, answers: &mut Answers) {
     compare(&junk(random), answers);
 }
 
-/// Every answer was given often.
+/// Every answer was given often, and no other one.
 fn finish(answers: &Answers, each: usize) {
-    println!("{} sheets, by answer {answers:?}", answers.iter().sum::<usize>());
-    assert!(answers.iter().all(|count| *count >= each), "{answers:?}");
+    println!("{} sheets, by answer {answers:?}", answers.values().sum::<usize>());
+    assert!(answers.keys().eq([0].iter().chain(&CHECKS)), "{answers:?}");
+    assert!(answers.values().all(|count| *count >= each), "{answers:?}");
 }
 
 #[test]
 fn random_sheets() {
     let mut random = Random::new(1);
     let mut answers = Answers::default();
-    while answers.iter().sum::<usize>() < SHEETS {
+    while answers.values().sum::<usize>() < SHEETS {
         let shape = if random.below(150) == 0 { Shape::any(&mut random) } else { Shape::small(&mut random) };
         compare_around(&mut random, &shape, &mut answers);
     }

@@ -25,6 +25,7 @@ fn quotient_output(sizes: Sizes, l: usize) -> Vec<u8> {
 /// - [`Refusal::Element`]
 /// - [`Refusal::Points`]
 /// - [`Refusal::Circuit`]
+/// - [`Refusal::FirstInput`], of every item
 /// - [`Refusal::Root`]
 /// - [`Refusal::Claim`]
 ///
@@ -34,14 +35,14 @@ fn quotient_output(sizes: Sizes, l: usize) -> Vec<u8> {
 /// use lomvuze::{cast, quotient, Circuit, Points, PublicInputs, Refusal, Sizes, Witness, R};
 ///
 /// fn main() -> Result<(), Refusal> {
-///     // One row: w0 × w1 = x0.
-///     let sizes = Sizes { m: 0, n: 1, k: 2 };
-///     let circuit = Circuit::new([(0, 1, 1)], [(0, 2, 1)], [(0, 0, 1)]);
+///     // One row: w0 × w1 = x1.
+///     let sizes = Sizes { m: 0, n: 2, k: 2 };
+///     let circuit = Circuit::new([(0, 2, 1)], [(0, 3, 1)], [(0, 1, 1)]);
 ///     let (points, r) = (Points::built_in(), R::default());
 ///     let mut witnesses = [Witness::from([2, 3]), Witness::from([4, 5])];
 ///     let items = [
-///         cast(sizes, &points, &circuit, &r, &PublicInputs::from([6]), &witnesses[0])?,
-///         cast(sizes, &points, &circuit, &r, &PublicInputs::from([20]), &witnesses[1])?,
+///         cast(sizes, &points, &circuit, &r, &PublicInputs::from([1, 6]), &witnesses[0])?,
+///         cast(sizes, &points, &circuit, &r, &PublicInputs::from([1, 20]), &witnesses[1])?,
 ///     ];
 ///     assert_eq!(quotient(sizes, &points, &circuit, &items, &witnesses)?, [4]);
 ///     assert_eq!(quotient(sizes, &points, &circuit, &items[..1], &witnesses[..1])?, []);
@@ -81,6 +82,7 @@ pub fn quotient(
 /// - [`Refusal::Element`]
 /// - [`Refusal::Points`]
 /// - [`Refusal::Circuit`]
+/// - [`Refusal::FirstInput`], of every item
 /// - [`Refusal::Challenge`]
 /// - [`Refusal::Root`]
 /// - [`Refusal::Claim`]
@@ -91,19 +93,19 @@ pub fn quotient(
 /// use lomvuze::{cast, fold, Challenge, Circuit, Points, PublicInputs, Refusal, Sizes, Witness, R};
 ///
 /// fn main() -> Result<(), Refusal> {
-///     // One row: w0 × w1 = x0.
-///     let sizes = Sizes { m: 0, n: 1, k: 2 };
-///     let circuit = Circuit::new([(0, 1, 1)], [(0, 2, 1)], [(0, 0, 1)]);
+///     // One row: w0 × w1 = x1.
+///     let sizes = Sizes { m: 0, n: 2, k: 2 };
+///     let circuit = Circuit::new([(0, 2, 1)], [(0, 3, 1)], [(0, 1, 1)]);
 ///     let (points, r) = (Points::built_in(), R::default());
 ///     let witnesses = [Witness::from([2, 3]), Witness::from([4, 5])];
 ///     let items = [
-///         cast(sizes, &points, &circuit, &r, &PublicInputs::from([6]), &witnesses[0])?,
-///         cast(sizes, &points, &circuit, &r, &PublicInputs::from([20]), &witnesses[1])?,
+///         cast(sizes, &points, &circuit, &r, &PublicInputs::from([1, 6]), &witnesses[0])?,
+///         cast(sizes, &points, &circuit, &r, &PublicInputs::from([1, 20]), &witnesses[1])?,
 ///     ];
 ///     let folded = fold(sizes, Challenge::from(3), &points, &circuit, &items, &witnesses)?;
 ///     assert_eq!(folded.quotient, [4]);
 ///     assert_eq!(folded.item.e, 24);
-///     assert_eq!(folded.item.x, [48]);
+///     assert_eq!(folded.item.x, [1, 48]);
 ///     assert_eq!(folded.witness, [8, 9]);
 ///
 ///     let at_a_node = fold(sizes, Challenge::from(1), &points, &circuit, &items, &witnesses);
@@ -160,9 +162,10 @@ pub fn fold(
 /// The first of these checks that fails:
 /// - [`Refusal::Sizes`], also where there are not openings of each item and the new one at each position
 /// - [`Refusal::Element`]
+/// - [`Refusal::FirstInput`], of every item but the new one
 /// - [`Refusal::Challenge`]
 /// - [`Refusal::Position`]
-/// - [`Refusal::NewItem`]
+/// - [`Refusal::NewItem`], also where the new item's first input is not 1
 /// - [`Refusal::Opening`]
 /// - [`Refusal::Combination`]
 ///
@@ -173,11 +176,11 @@ pub fn fold(
 /// use lomvuze::{Challenge, Circuit, Folded, Points, Positions, PublicInputs, Refusal, Sizes, Witness, R};
 ///
 /// fn main() -> Result<(), Refusal> {
-///     // One row: w0 × w1 = x0.
-///     let sizes = Sizes { m: 0, n: 1, k: 2 };
-///     let circuit = Circuit::new([(0, 1, 1)], [(0, 2, 1)], [(0, 0, 1)]);
+///     // One row: w0 × w1 = x1.
+///     let sizes = Sizes { m: 0, n: 2, k: 2 };
+///     let circuit = Circuit::new([(0, 2, 1)], [(0, 3, 1)], [(0, 1, 1)]);
 ///     let (points, witness) = (Points::built_in(), Witness::from([2, 3]));
-///     let items = [cast(sizes, &points, &circuit, &R::default(), &PublicInputs::from([6]), &witness)?];
+///     let items = [cast(sizes, &points, &circuit, &R::default(), &PublicInputs::from([1, 6]), &witness)?];
 ///
 ///     let challenge = Challenge::from(2);
 ///     let Folded { quotient, item, witness: new_witness, .. } =

@@ -20,6 +20,7 @@ use std::slice::from_ref;
 /// - [`Refusal::Element`]
 /// - [`Refusal::Points`]
 /// - [`Refusal::Circuit`]
+/// - [`Refusal::FirstInput`]
 /// - [`Refusal::Claim`]
 ///
 /// # Example
@@ -28,16 +29,18 @@ use std::slice::from_ref;
 /// use lomvuze::{cast, encode, Circuit, Points, PublicInputs, Refusal, Sizes, Witness, R};
 ///
 /// fn main() -> Result<(), Refusal> {
-///     // One row: w0 × w1 = x0. It needs no r.
-///     let sizes = Sizes { m: 0, n: 1, k: 2 };
-///     let circuit = Circuit::new([(0, 1, 1)], [(0, 2, 1)], [(0, 0, 1)]);
+///     // One row: w0 × w1 = x1. It needs no r.
+///     let sizes = Sizes { m: 0, n: 2, k: 2 };
+///     let circuit = Circuit::new([(0, 2, 1)], [(0, 3, 1)], [(0, 1, 1)]);
 ///     let (points, r, witness) = (Points::built_in(), R::default(), Witness::from([2, 3]));
-///     let item = cast(sizes, &points, &circuit, &r, &PublicInputs::from([6]), &witness)?;
+///     let item = cast(sizes, &points, &circuit, &r, &PublicInputs::from([1, 6]), &witness)?;
 ///     assert_eq!((item.e, item.root), (0, encode(2, &points, &witness)?.root));
 ///
-///     let seven = cast(sizes, &points, &circuit, &r, &PublicInputs::from([7]), &witness);
+///     let seven = cast(sizes, &points, &circuit, &r, &PublicInputs::from([1, 7]), &witness);
 ///     assert_eq!(seven, Err(Refusal::Claim));
-///     let with_r = cast(sizes, &points, &circuit, &R::from([1]), &PublicInputs::from([6]), &witness);
+///     let without_one = cast(sizes, &points, &circuit, &r, &PublicInputs::from([0, 6]), &witness);
+///     assert_eq!(without_one, Err(Refusal::FirstInput));
+///     let with_r = cast(sizes, &points, &circuit, &R::from([1]), &PublicInputs::from([1, 6]), &witness);
 ///     assert_eq!(with_r, Err(Refusal::Sizes));
 ///     Ok(())
 /// }
@@ -69,6 +72,7 @@ pub fn cast(
 /// - [`Refusal::Element`]
 /// - [`Refusal::Points`]
 /// - [`Refusal::Circuit`]
+/// - [`Refusal::FirstInput`]
 /// - [`Refusal::Root`]
 /// - [`Refusal::Claim`]
 ///
@@ -78,15 +82,15 @@ pub fn cast(
 /// use lomvuze::{decide, encode, Circuit, Item, Points, PublicInputs, Refusal, Sizes, Witness, R};
 ///
 /// fn main() -> Result<(), Refusal> {
-///     // One row: w0 × w1 = x0.
-///     let sizes = Sizes { m: 0, n: 1, k: 2 };
-///     let circuit = Circuit::new([(0, 1, 1)], [(0, 2, 1)], [(0, 0, 1)]);
+///     // One row: w0 × w1 = x1.
+///     let sizes = Sizes { m: 0, n: 2, k: 2 };
+///     let circuit = Circuit::new([(0, 2, 1)], [(0, 3, 1)], [(0, 1, 1)]);
 ///     let (points, witness) = (Points::built_in(), Witness::from([4, 5]));
 ///     let root = encode(2, &points, &witness)?.root;
-///     let item = Item::new(R::default(), PublicInputs::from([20]), root);
+///     let item = Item::new(R::default(), PublicInputs::from([1, 20]), root);
 ///     decide(sizes, &points, &circuit, &item, &witness)?;
 ///
-///     let false_one = Item::new(R::default(), PublicInputs::from([21]), root);
+///     let false_one = Item::new(R::default(), PublicInputs::from([1, 21]), root);
 ///     assert_eq!(decide(sizes, &points, &circuit, &false_one, &witness), Err(Refusal::Claim));
 ///     let other = Witness::from([3, 7]);
 ///     assert_eq!(decide(sizes, &points, &circuit, &false_one, &other), Err(Refusal::Root));

@@ -42,6 +42,7 @@ fn front<T>(
 ///   give, or the last line does not have the count of the pairs
 /// - [`Refusal::Element`]
 /// - [`Refusal::Circuit`]
+/// - [`Refusal::FirstInput`], of every item
 ///
 /// # Example
 ///
@@ -49,23 +50,23 @@ fn front<T>(
 /// use lomvuze::{decide, encode, read_sheet, Circuit, Points, Refusal, Sheet, Sizes};
 ///
 /// fn main() -> Result<(), Refusal> {
-///     // One row, w0 × w1 = x0, and two items. Their roots are left open: zeros.
+///     // One row, w0 × w1 = x1, and two items. Their roots are left open: zeros.
 ///     let text = "\
-/// size 0 1 2
-/// a 0 1 1
-/// b 0 2 1
-/// c 0 0 1
-/// item 0 6 0000000000000000000000000000000000000000000000000000000000000000
+/// size 0 2 2
+/// a 0 2 1
+/// b 0 3 1
+/// c 0 1 1
+/// item 0 1 6 0000000000000000000000000000000000000000000000000000000000000000
 /// wit 2 3
-/// item 0 21 0000000000000000000000000000000000000000000000000000000000000000
+/// item 0 1 21 0000000000000000000000000000000000000000000000000000000000000000
 /// wit 4 5
 /// end 2
 /// "
 ///     .replace(' ', "\t");
 ///     let Sheet { sizes, circuit, mut items, witnesses, .. } = read_sheet(text.as_bytes())?;
-///     assert_eq!(sizes, Sizes { m: 0, n: 1, k: 2 });
-///     assert_eq!(circuit, Circuit::new([(0, 1, 1)], [(0, 2, 1)], [(0, 0, 1)]));
-///     assert_eq!(items[1].x, [21]);
+///     assert_eq!(sizes, Sizes { m: 0, n: 2, k: 2 });
+///     assert_eq!(circuit, Circuit::new([(0, 2, 1)], [(0, 3, 1)], [(0, 1, 1)]));
+///     assert_eq!(items[1].x, [1, 21]);
 ///     assert_eq!(witnesses[1], [4, 5]);
 ///
 ///     // No item is accepted without its root.
@@ -78,8 +79,9 @@ fn front<T>(
 ///     let second = decide(sizes, &points, &circuit, &items[1], &witnesses[1]);
 ///     assert_eq!(second, Err(Refusal::Claim)); // 4 × 5 is 20
 ///
-///     // A pair was lost on the way.
+///     // A pair was lost on the way; a first input is not 1.
 ///     assert_eq!(read_sheet(text.replace("end\t2", "end\t3").as_bytes()), Err(Refusal::Sizes));
+///     assert_eq!(read_sheet(text.replace("1\t21", "2\t21").as_bytes()), Err(Refusal::FirstInput));
 ///     Ok(())
 /// }
 /// ```

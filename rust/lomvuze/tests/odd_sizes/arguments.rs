@@ -29,10 +29,10 @@ impl Arguments {
         let points: Points = (0..16).map(|i| 3 * i).collect();
         let circuit = Circuit::default();
         let witnesses = vec![Witness::from([1, 2, 3, 4]), Witness::from([5, 6, 7, 8])];
-        let (r, x) = (R::from([9]), PublicInputs::from([10, 11]));
+        let (r, x) = (R::from([9]), PublicInputs::from([1, 11]));
         let items = vec![
             cast(sizes, &points, &circuit, &r, &x, &witnesses[0])?,
-            cast(sizes, &points, &circuit, &R::from([12]), &PublicInputs::from([13, 14]), &witnesses[1])?,
+            cast(sizes, &points, &circuit, &R::from([12]), &PublicInputs::from([1, 14]), &witnesses[1])?,
         ];
         let positions = Positions::from([0, 15, 7]);
         let folded = fold(sizes, Challenge::from(100), &points, &circuit, &items, &witnesses)?;

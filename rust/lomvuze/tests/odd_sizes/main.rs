@@ -89,7 +89,7 @@ fn sheets() {
         let [m, n, k] = sizes;
         let root = "0".repeat(64);
         answer(|| {
-            let text = format!("size\t{m}\t{n}\t{k}\nitem\t0\t0\t{root}\nwit\t0\t0\nend\t{pairs}\n");
+            let text = format!("size\t{m}\t{n}\t{k}\nitem\t0\t1\t{root}\nwit\t0\t0\nend\t{pairs}\n");
             read_sheet(text.as_bytes()).map(drop)
         })
     };

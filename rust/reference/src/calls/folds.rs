@@ -18,7 +18,7 @@ struct List {
 }
 
 impl List {
-    /// Runs checks 3, 12 and 4.
+    /// Runs checks 3, 12, 4 and 13.
     fn read(
         (m, n, k): (usize, usize, usize),
         points: &[u8],
@@ -32,6 +32,7 @@ impl List {
 
         let points = check_points(points, k)?;
         check_circuit(&circuit, m, n, k)?;
+        check_first_inputs(&items)?;
         Ok(List { points, circuit, items, witnesses })
     }
 
@@ -47,7 +48,7 @@ impl List {
     }
 }
 
-/// Writes the quotient of l items. Checks 2, 3, 12, 4, 10 and 11.
+/// Writes the quotient of l items. Checks 2, 3, 12, 4, 13, 10 and 11.
 pub fn quotient(
     m: u32,
     n: u32,
@@ -77,8 +78,8 @@ pub fn quotient(
     })
 }
 
-/// Writes the quotient of l items, and the new item and witness for a challenge. Checks 2, 3, 12, 4, 5, 10 and
-/// 11.
+/// Writes the quotient of l items, and the new item and witness for a challenge. Checks 2, 3, 12, 4, 13, 5, 10
+/// and 11.
 pub fn fold(
     m: u32,
     n: u32,
@@ -120,7 +121,8 @@ pub fn fold(
     })
 }
 
-/// Verifies a fold of l items at t positions. Checks 2, 3 and 5 to 9.
+/// Verifies a fold of l items at t positions. Checks 2, 3, 13 (over the l items; the new one's x is check 7's), and 5
+/// to 9.
 pub fn verify(
     m: u32,
     n: u32,
@@ -148,6 +150,7 @@ pub fn verify(
         let new = item(new_item, m)?;
         let openings = openings(openings_in, k)?;
 
+        check_first_inputs(&items)?;
         let challenge = check_challenge(challenge, l)?;
         let positions = check_positions(positions, k)?;
 

@@ -7,8 +7,8 @@ use crate::claims::{self, Item};
 use crate::code;
 use crate::field::ZERO;
 
-/// Writes the item of an R1CS instance: r as lent, e = 0 and the root of the witness. Checks 2, 3, 12, 4 and
-/// 11.
+/// Writes the item of an R1CS instance: r as lent, e = 0 and the root of the witness. Checks 2, 3, 12, 4, 13
+/// and 11.
 pub fn cast(
     m: u32,
     n: u32,
@@ -36,6 +36,7 @@ pub fn cast(
 
         let points = check_points(points, k)?;
         check_circuit(&circuit, m, n, k)?;
+        check_first_input(&x)?;
 
         let item = Item { e: ZERO, r, x, root: code::root(&points, &w) };
         check(11, claims::holds(&circuit, &item, &w))?;
@@ -45,7 +46,7 @@ pub fn cast(
     })
 }
 
-/// Decides an item with its witness. Checks 2, 3, 12, 4, 10 and 11.
+/// Decides an item with its witness. Checks 2, 3, 12, 4, 13, 10 and 11.
 pub fn decide(
     m: u32,
     n: u32,
@@ -70,6 +71,7 @@ pub fn decide(
 
         let points = check_points(points, k)?;
         check_circuit(&circuit, m, n, k)?;
+        check_first_input(&item.x)?;
         check(10, claims::matches(&points, &item, &w))?;
         check(11, claims::holds(&circuit, &item, &w))
     })

@@ -1,7 +1,7 @@
 //! Damage to sheets: changes that make chosen checks fail; random changes of what a sheet says, of its lines
 //! and fields, and of its bytes; and texts that are no sheets.
 
-use super::elements;
+use super::{elements, first_inputs};
 use crate::Random;
 use lomvuze_reference::field::P;
 use lomvuze_reference::sheet::{write, Pair, Sheet};
@@ -12,10 +12,13 @@ fn pick<T: Copy>(random: &mut Random, from: &[T]) -> T {
 
 // ---- Chosen checks
 
-/// Writes an accepted sheet after changes that make these checks fail: the answer is the least of them,
-/// unless the text got too long.
+/// Writes an accepted sheet after changes that make these checks fail: the answer is the first of them in the order 1,
+/// 2, 3, 4, 13, unless the text got too long.
 pub fn failing(random: &mut Random, sheet: &Sheet, checks: &[u32]) -> Vec<u8> {
     let mut sheet = sheet.clone();
+    if checks.contains(&13) {
+        fail_first_inputs(random, &mut sheet);
+    }
     if checks.contains(&4) {
         fail_order(random, &mut sheet);
     }
@@ -115,6 +118,20 @@ fn fail_order(random: &mut Random, sheet: &mut Sheet) {
         3 if i > 0 => list[i] = [list[i - 1][0], list[i - 1][1], list[i][2]],
         4 if count > 1 => list.swap(i, (i + 1) % count),
         _ => list[i][0] = rows,
+    }
+}
+
+/// A first input other than 1: of the first pair, of the last, of any or of all.
+fn fail_first_inputs(random: &mut Random, sheet: &mut Sheet) {
+    let any = random.element().number();
+    let number = pick(random, &[0, 2, P - 1, if any == 1 { 3 } else { any }]);
+    let mut all = first_inputs(sheet);
+    let last = all.len() - 1;
+    match random.below(4) {
+        0 => *all[0] = number,
+        1 => *all[last] = number,
+        2 => *all[random.below(last + 1)] = number,
+        _ => all.into_iter().for_each(|first| *first = number),
     }
 }
 
@@ -376,8 +393,8 @@ pub fn damaged(random: &mut Random, sheet: &Sheet) -> Vec<u8> {
 fn change_sheet(random: &mut Random, sheet: &mut Sheet) {
     let (small, any) = (random.below(130) as u32, random.number());
     let number = pick(random, &[0, 1, P - 1, P, P + 1, u32::MAX, small, any]);
-    let pairs = sheet.pairs.len();
-    match random.below(10) {
+    let (pairs, first) = (sheet.pairs.len(), 1 + sheet.size[0] as usize);
+    match random.below(13) {
         0 => {
             let size = &mut sheet.size[random.below(3)];
             *size = pick(random, &[number, small, size.wrapping_add(1), size.wrapping_sub(1)]);
@@ -419,6 +436,9 @@ fn change_sheet(random: &mut Random, sheet: &mut Sheet) {
             }
         }
         8 => sheet.pairs.swap(random.below(pairs), pairs - 1),
+        9..=11 => {
+            sheet.pairs[random.below(pairs)].numbers.iter_mut().skip(first).take(1).for_each(|x| *x = number)
+        }
         _ => {
             let Pair { numbers, witness, .. } = &mut sheet.pairs[random.below(pairs)];
             let line = if random.below(2) == 0 { numbers } else { witness };
@@ -469,11 +489,11 @@ pub fn junk(random: &mut Random) -> Vec<u8> {
         ROOT,
     ];
     const LINES: [&[u8]; 8] = [
-        b"size\t0\t1\t2\n",
-        b"a\t0\t1\t1\n",
-        b"b\t0\t2\t1\n",
-        b"c\t0\t0\t1\n",
-        b"item\t0\t6\t0123456789abcdef0123456789abcdef0123456789abcdef0123456789abcdef\n",
+        b"size\t0\t2\t2\n",
+        b"a\t0\t2\t1\n",
+        b"b\t0\t3\t1\n",
+        b"c\t0\t1\t1\n",
+        b"item\t0\t1\t6\t0123456789abcdef0123456789abcdef0123456789abcdef0123456789abcdef\n",
         b"wit\t2\t3\n",
         b"end\t0\n",
         b"end\t1\n",

@@ -1,9 +1,7 @@
 -- `cast::verdict` meets its contract: each check's result decides whether the answer is its number.
-use mathlib.Core.Path.{_≡_, refl}
-use mathlib.Core.Bool.{true}
-use Rattle.theory.specs.Sizes.{elementsBelow}
+use mathlib.Core.Path.{refl}
 use Rattle.checks.proofs.Calls.{fails, passes, passed}
-use Rattle.decider.proofs.CastLaws.{CastFits, cast-fits, cast-below}
+use Rattle.decider.proofs.CastLaws.{CastFits, cast-fits, CastBelow, cast-below}
 use borrow.Author.Needs.{needs}
 use Rattle.decider.proofs.cast.verdict.Statement.{statement}
 use Rattle.decider.proofs.cast.verdict.Tie as tie
@@ -14,10 +12,10 @@ fits-here c =
     let a = c .before .before .before .before .before .before .before .before .before .before .args in
     cast-fits (a .m) (a .n) (a .k) (a .points .now) (a .a .now) (a .b .now) (a .c .now) (a .r .now) (a .x .now) (a .w .now) (a .item .now) (passed (c .before .fits2 .ensures) (c .if1 .left))
 
-r-below : (c : tie.Else2) → (let a = c .before .before .before .before .before .before .before .before .before .before .before .before .args in elementsBelow (a .r .now) ≡ true)
-r-below c =
+below-here : (c : tie.Else2) → (let a = c .before .before .before .before .before .before .before .before .before .before .before .before .args in CastBelow (a .r .now) (a .x .now) (a .w .now))
+below-here c =
     let a = c .before .before .before .before .before .before .before .before .before .before .before .before .args in
-    cast-below (a .a .now) (a .b .now) (a .c .now) (a .r .now) (a .x .now) (a .w .now) (passed (c .before .below .ensures) (c .if2 .left)) .r-below
+    cast-below (a .a .now) (a .b .now) (a .c .now) (a .r .now) (a .x .now) (a .w .now) (passed (c .before .below .ensures) (c .if2 .left))
 
 fits-requires : tie.Need-fits-requires
 fits-requires c κs = search needs
@@ -58,10 +56,8 @@ returns-4 c =
     passes 12 (c12 .before .differ .ensures) (c12 .if3 .left) (
     fails 4 _ (c .before .circuit-in-order .ensures) (c .if4 .taken))))
 
-holds-requires : tie.Need-holds-requires
-holds-requires c κs =
-    let h = fits-here (c .before .before .before .before .before .before) in
-    ((h .sizes .m-most, h .sizes .n-most, h .sizes .k-most, h .r-length, h .x-length, h .w-length), (r-below (c .before .before .before .before), passed (c .before .circuit-in-order .ensures) (c .if4 .left)))
+leading-one-requires : tie.Need-leading-one-requires
+leading-one-requires c κs = let h = fits-here (c .before .before .before .before .before .before) in (h .sizes .n-least, h .x-length, below-here (c .before .before .before .before) .x-below)
 
 returns-5 : tie.Need-returns-5
 returns-5 c =
@@ -73,20 +69,42 @@ returns-5 c =
     passes 3 (c3 .before .below .ensures) (c3 .if2 .left) (
     passes 12 (c12 .before .differ .ensures) (c12 .if3 .left) (
     passes 4 (c4 .before .circuit-in-order .ensures) (c4 .if4 .left) (
-    fails 11 _ (c .before .holds .ensures) (c .if5 .taken)))))
+    fails 13 _ (c .before .leading-one .ensures) (c .if5 .taken)))))
+
+holds-requires : tie.Need-holds-requires
+holds-requires c κs =
+    let h = fits-here (c .before .before .before .before .before .before .before .before) in
+    let c4 = c .before .before in
+    ((h .sizes .m-most, h .sizes .n-most, h .sizes .k-most, h .r-length, h .x-length, h .w-length), (below-here (c .before .before .before .before .before .before) .r-below, passed (c4 .before .circuit-in-order .ensures) (c4 .if4 .left)))
 
 returns-6 : tie.Need-returns-6
 returns-6 c =
-    let c2 = c .before .before .before .before .before .before .before .before in
-    let c3 = c .before .before .before .before .before .before in
-    let c12 = c .before .before .before .before in
-    let c4 = c .before .before in
+    let c2 = c .before .before .before .before .before .before .before .before .before .before in
+    let c3 = c .before .before .before .before .before .before .before .before in
+    let c12 = c .before .before .before .before .before .before in
+    let c4 = c .before .before .before .before in
+    let c13 = c .before .before in
     passes 2 (c2 .before .fits2 .ensures) (c2 .if1 .left) (
     passes 3 (c3 .before .below .ensures) (c3 .if2 .left) (
     passes 12 (c12 .before .differ .ensures) (c12 .if3 .left) (
     passes 4 (c4 .before .circuit-in-order .ensures) (c4 .if4 .left) (
-    passes 11 (c .before .holds .ensures) (c .if5 .left) (
-    refl)))))
+    passes 13 (c13 .before .leading-one .ensures) (c13 .if5 .left) (
+    fails 11 _ (c .before .holds .ensures) (c .if6 .taken))))))
+
+returns-7 : tie.Need-returns-7
+returns-7 c =
+    let c2 = c .before .before .before .before .before .before .before .before .before .before in
+    let c3 = c .before .before .before .before .before .before .before .before in
+    let c12 = c .before .before .before .before .before .before in
+    let c4 = c .before .before .before .before in
+    let c13 = c .before .before in
+    passes 2 (c2 .before .fits2 .ensures) (c2 .if1 .left) (
+    passes 3 (c3 .before .below .ensures) (c3 .if2 .left) (
+    passes 12 (c12 .before .differ .ensures) (c12 .if3 .left) (
+    passes 4 (c4 .before .circuit-in-order .ensures) (c4 .if4 .left) (
+    passes 13 (c13 .before .leading-one .ensures) (c13 .if5 .left) (
+    passes 11 (c .before .holds .ensures) (c .if6 .left) (
+    refl))))))
 
 pub verdict-spec : {M : Type 1} → statement M
 verdict-spec =
@@ -100,6 +118,8 @@ verdict-spec =
     returns-3
     circuit-in-order-requires
     returns-4
-    holds-requires
+    leading-one-requires
     returns-5
-    returns-6)
+    holds-requires
+    returns-6
+    returns-7)

@@ -32,7 +32,7 @@ slice-aggregate-verdict-4 c = front-length _ _ (c-inside (c .before .before .bef
 verdict-requires : tie.Need-verdict-requires
 verdict-requires c κs =
     let bounds = (c .before .before .before .before .before .before .before .before .before .before .before .before .before .before .before) .pre .0 in
-    (bounds .m-most, bounds .n-most, bounds .k-counts, omega arith, omega arith, refl)
+    (bounds .m-most, bounds .n-least, bounds .n-most, bounds .k-counts, omega arith, omega arith, refl)
 
 pub circuit-answer-spec : {M : Type 1} → statement M
 circuit-answer-spec =

@@ -35,6 +35,7 @@ verdict-requires c κs =
     let st = s .args .st in
     let bounds = s .pre .0 .0 in (
       bounds .m-most,
+      bounds .n-least,
       bounds .n-most,
       bounds .k-counts,
       length-take-le _ _ (items-inside s) ∙ s .pre .1 .0,
