@@ -13,8 +13,8 @@ bin := $(or $(LOMVUZE_BIN),target/bin)
 
 sources := crates.txt $(shell find crates -type f -not -path '*/must-fail/*')
 
-# The library: an archive and a shared object. Before version 1 a call's arguments may change with the minor number, so the shared object's name has it:
-# a program is not loaded with calls of other arguments.
+# The library: an archive and a shared object. Before version 1 what a call takes and returns may change with the minor number, so the shared object's
+# name has it: a program is not loaded with other calls than it was compiled for.
 archive := target/liblomvuze.a
 shared := target/liblomvuze.so.$(version)
 soname := liblomvuze.so.$(major).$(minor)
@@ -71,7 +71,7 @@ prefix := $(if $(filter /%,$(firstword $(PREFIX))),$(PREFIX),$(CURDIR)/$(PREFIX)
 quoted = '$(subst ','\'',$(1))'
 to = $(call quoted,$(DESTDIR)$(prefix)/$(1))
 # Each function has a man page that leads to that of the library.
-functions := $(shell sed -n 's/^\(uint32_t \|const char \*\)\(lomvuze_[a-z_]*\).*/\2/p' $(header))
+functions := $(shell sed -n 's/^\(uint[0-9]*_t \|const char \*\)\(lomvuze_[a-z_]*\).*/\2/p' $(header))
 installed := bin/claims include/lomvuze.h include/lomvuze.hpp lib/liblomvuze.a lib/liblomvuze.so lib/$(soname) lib/liblomvuze.so.$(version) \
     lib/pkgconfig/lomvuze.pc share/man/man1/claims.1 share/man/man3/lomvuze.3 $(functions:%=share/man/man3/%.3)
 write = install -m 644 /dev/stdin

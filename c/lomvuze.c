@@ -1,10 +1,10 @@
 /*
- * What the library has beside the proved calls: what an answer means, and the version. It takes no buffer.
+ * What the library has beside the proved calls: what a verdict means, and the version. It takes no buffer.
  */
 #include "lomvuze.h"
 
-const char *lomvuze_strerror(uint32_t answer) {
-  switch (answer) {
+const char *lomvuze_strerror(uint32_t verdict) {
+  switch (verdict) {
     case LOMVUZE_ACCEPTED: return "accepted";
     case LOMVUZE_SHEET: return "the sheet is over 60,000 bytes or breaks the line rules";
     case LOMVUZE_SIZE: return "a size, count or length is not permitted";

@@ -1,7 +1,7 @@
 /* lomvuze_cast */
 #include "target.h"
 
-static uint32_t run(const struct call *c) {
+static uint64_t run(const struct call *c) {
   const struct sizes *s = &c->sizes;
   return lomvuze_cast(s->m, s->n, s->k, OVER(c), BYTES(c->in[4]), BYTES(c->in[5]), BYTES(c->in[6]), BYTES(c->out[0]));
 }
@@ -10,7 +10,7 @@ static uint32_t run(const struct call *c) {
  * The item put together by hand, with the root that encoding gives, is the one that was written. Deciding it gives the same answer. Encoding knows
  * the points and the witness alone: where it refuses them, casting does, or it refuses another element before.
  */
-static void compare(const struct call *c, uint32_t answer) {
+static void compare(const struct call *c, uint64_t answer) {
   const struct sizes *s = &c->sizes;
   struct buffer r = c->in[4], x = c->in[5], w = c->in[6];
   struct buffer code = scratch(LOMVUZE_CODEWORD_BYTES(s->k)), item = scratch(LOMVUZE_ITEM_BYTES(s->m, s->n));

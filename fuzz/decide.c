@@ -1,13 +1,13 @@
 /* lomvuze_decide */
 #include "target.h"
 
-static uint32_t run(const struct call *c) {
+static uint64_t run(const struct call *c) {
   const struct sizes *s = &c->sizes;
   return lomvuze_decide(s->m, s->n, s->k, OVER(c), BYTES(c->in[4]), BYTES(c->in[5]));
 }
 
 /* Folding the item alone, at any challenge, gives the same answer and gives it back. With another e or root it is refused. */
-static void compare(const struct call *c, uint32_t answer) {
+static void compare(const struct call *c, uint64_t answer) {
   const struct sizes *s = &c->sizes;
   struct buffer item = c->in[4], w = c->in[5], none = scratch(0), new_item = scratch(item.length), new_w = scratch(w.length);
   REQUIRE(lomvuze_fold(s->m, s->n, s->k, 1, LOMVUZE_P - 1, OVER(c), BYTES(item), BYTES(w), BYTES(none), BYTES(new_item), BYTES(new_w)) == answer,

@@ -1,7 +1,7 @@
 /* lomvuze_encode */
 #include "target.h"
 
-static uint32_t run(const struct call *c) {
+static uint64_t run(const struct call *c) {
   return lomvuze_encode(c->sizes.k, BYTES(c->in[0]), BYTES(c->in[1]), BYTES(c->out[0]), BYTES(c->out[1]));
 }
 
@@ -9,7 +9,7 @@ static uint32_t run(const struct call *c) {
  * Opening every position gives the same answer and shows the codeword; casting gives the root. With points that are lent the codeword has the sums
  * that define it.
  */
-static void compare(const struct call *c, uint32_t answer) {
+static void compare(const struct call *c, uint64_t answer) {
   uint32_t k = c->sizes.k, t = LOMVUZE_MAX_T(k);
   struct buffer points = c->in[0], w = c->in[1], code = c->out[0];
   struct buffer positions = scratch(LOMVUZE_POSITIONS_BYTES(t)), openings = scratch(LOMVUZE_OPENINGS_BYTES(k, t));

@@ -20,9 +20,8 @@ static uint32_t following(uint32_t check) {
   return next[1];
 }
 
-uint32_t fault(const struct call *call, uint32_t answer) {
-  static unsigned calls;
-  calls++;
+/* What is done to the buffers. */
+static void spoil(const struct call *call, uint32_t verdict, unsigned calls) {
   for (const struct buffer *in = call->in; in < call->in + MOST_INPUTS && in->bytes != NULL; in++) {
     if (is("reads-behind-input")) byte = in->bytes[in->length];
     if (is("reads-before-input")) byte = in->bytes[-1];
@@ -33,20 +32,36 @@ uint32_t fault(const struct call *call, uint32_t answer) {
     if (is("writes-behind-output")) out->bytes[out->length] = byte;
     if (is("writes-before-output")) out->bytes[-1] = byte;
     if (out->length == 0) continue;
-    if (is("writes-at-refusal") && answer != LOMVUZE_ACCEPTED) out->bytes[out->length - 1] ^= 1;
-    if (answer != LOMVUZE_ACCEPTED) continue;
+    if (is("writes-at-refusal") && verdict != LOMVUZE_ACCEPTED) out->bytes[out->length - 1] ^= 1;
+    if (verdict != LOMVUZE_ACCEPTED) continue;
     size_t end = written(call, i);
     if (is("writes-beyond") && end < out->length) out->bytes[end] ^= 1;
     if (is("leaves-a-byte") && end > 0) out->bytes[end - 1] = (uint8_t)calls;
     if (is("writes-another-byte") && end > 0 && target.outputs[i] != SHEET_SIZES) out->bytes[end - 1] ^= 1;
   }
+}
+
+/* Another count of blocks. */
+static uint64_t recounted(const struct sizes *s, uint64_t blocks) {
+  uint64_t opening = 1 + 2 * LOMVUZE_DEPTH(s->k);
+  if (blocks == 0) return is("counts-what-is-not-hashed") ? opening : 0;
+  if (is("counts-an-opening-more")) return blocks + opening;
+  if (is("counts-a-block-less")) return blocks - 1;
+  if (is("counts-all-openings")) return LOMVUZE_VERIFY_BLOCKS(s->k, s->l, s->t);
+  return is("counts-no-blocks") ? 0 : blocks;
+}
+
+uint64_t fault(const struct call *call, uint64_t answer) {
+  static unsigned calls;
+  uint32_t verdict = LOMVUZE_VERDICT(answer);
+  spoil(call, verdict, ++calls);
   if (is("cuts-lengths") && call->in[0].length > UINT32_MAX) return LOMVUZE_ACCEPTED;
   if (is("answers-none")) return UINT32_MAX;
   if (is("answers-in-turns") && calls % 2 == 0) return LOMVUZE_ACCEPTED;
   if (is("accepts")) return LOMVUZE_ACCEPTED;
-  if (is("refuses") && answer == LOMVUZE_ACCEPTED) return LOMVUZE_ELEMENT;
-  if (is("misses-first-inputs") && answer == LOMVUZE_FIRST_INPUT) return following(answer);
-  bool after = answer != LOMVUZE_ACCEPTED && !comes_before(answer, LOMVUZE_FIRST_INPUT);
+  if (is("refuses") && verdict == LOMVUZE_ACCEPTED) return LOMVUZE_ELEMENT;
+  if (is("misses-first-inputs") && verdict == LOMVUZE_FIRST_INPUT) return following(verdict);
+  bool after = verdict != LOMVUZE_ACCEPTED && !comes_before(verdict, LOMVUZE_FIRST_INPUT);
   if (is("refuses-first-inputs") && after) return LOMVUZE_FIRST_INPUT;
-  return answer;
+  return 64 * recounted(&call->sizes, LOMVUZE_BLOCKS(answer)) + verdict;
 }

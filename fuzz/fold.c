@@ -1,7 +1,7 @@
 /* lomvuze_fold */
 #include "target.h"
 
-static uint32_t run(const struct call *c) {
+static uint64_t run(const struct call *c) {
   const struct sizes *s = &c->sizes;
   return lomvuze_fold(s->m, s->n, s->k, s->l, s->challenge, OVER(c), BYTES(c->in[4]), BYTES(c->in[5]), BYTES(c->out[0]), BYTES(c->out[1]),
                       BYTES(c->out[2]));
@@ -24,7 +24,7 @@ static struct buffer open_all(const struct call *c, struct buffer positions) {
  * The quotient alone gets the same answer, and after 0 the same bytes; but it knows no challenge. What was written is accepted by deciding,
  * and by verifying at the last position and one other.
  */
-static void compare(const struct call *c, uint32_t answer) {
+static void compare(const struct call *c, uint64_t answer) {
   const struct sizes *s = &c->sizes;
   struct buffer quotient = scratch(c->out[0].length);
   uint32_t alone = lomvuze_quotient(s->m, s->n, s->k, s->l, OVER(c), BYTES(c->in[4]), BYTES(c->in[5]), BYTES(quotient));
@@ -40,9 +40,9 @@ static void compare(const struct call *c, uint32_t answer) {
   put_number(positions.bytes, 4 * s->k - 1);
   put_number(positions.bytes + LOMVUZE_NUMBER_BYTES, s->challenge % (4 * s->k));
   struct buffer openings = open_all(c, positions);
-  REQUIRE(lomvuze_verify(s->m, s->n, s->k, s->l, 2, s->challenge, BYTES(c->in[4]), BYTES(positions), BYTES(c->out[0]), BYTES(c->out[1]),
-                         BYTES(openings)) == LOMVUZE_ACCEPTED,
-          "verifying refuses the fold");
+  uint64_t verified = lomvuze_verify(s->m, s->n, s->k, s->l, 2, s->challenge, BYTES(c->in[4]), BYTES(positions), BYTES(c->out[0]),
+                                     BYTES(c->out[1]), BYTES(openings));
+  REQUIRE(LOMVUZE_VERDICT(verified) == LOMVUZE_ACCEPTED, "verifying refuses the fold");
 }
 
 const struct target target = {

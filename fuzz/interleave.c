@@ -1,7 +1,7 @@
 /* lomvuze_interleave */
 #include "target.h"
 
-static uint32_t run(const struct call *c) {
+static uint64_t run(const struct call *c) {
   return lomvuze_interleave(c->sizes.k, c->sizes.l, c->sizes.t, BYTES(c->in[0]), BYTES(c->out[0]));
 }
 
@@ -9,7 +9,7 @@ static uint32_t run(const struct call *c) {
  * Each opening stands where the header says that verifying looks for it. Exchanging positions and items, where their counts permit it, gives
  * the openings back.
  */
-static void compare(const struct call *c, uint32_t answer) {
+static void compare(const struct call *c, uint64_t answer) {
   const struct sizes *s = &c->sizes;
   struct buffer opened = c->in[0], openings = c->out[0];
   if (answer != LOMVUZE_ACCEPTED) return;

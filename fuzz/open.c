@@ -1,7 +1,7 @@
 /* lomvuze_open */
 #include "target.h"
 
-static uint32_t run(const struct call *c) {
+static uint64_t run(const struct call *c) {
   return lomvuze_open(c->sizes.k, c->sizes.t, BYTES(c->in[0]), BYTES(c->in[1]), BYTES(c->in[2]), BYTES(c->out[0]));
 }
 
@@ -9,7 +9,7 @@ static uint32_t run(const struct call *c) {
  * Encoding refuses the same points and witnesses. A fold of one item is that item: verifying, which takes no points, accepts it with the openings
  * once for the item and once for the new one.
  */
-static void compare(const struct call *c, uint32_t answer) {
+static void compare(const struct call *c, uint64_t answer) {
   uint32_t k = c->sizes.k, t = c->sizes.t;
   struct buffer points = c->in[0], w = c->in[1], positions = c->in[2];
   struct buffer code = scratch(LOMVUZE_CODEWORD_BYTES(k)), root = scratch(LOMVUZE_DIGEST_BYTES);
@@ -20,8 +20,8 @@ static void compare(const struct call *c, uint32_t answer) {
   size_t opening = LOMVUZE_OPENING_BYTES(k);
   struct buffer item = item_of(k, points, w), none = scratch(0), twice = scratch(LOMVUZE_ALL_OPENINGS_BYTES(k, 1, t));
   for (uint32_t i = 0; i < 2 * t; i++) memcpy(twice.bytes + i * opening, c->out[0].bytes + i / 2 * opening, opening);
-  REQUIRE(lomvuze_verify(0, 1, k, 1, t, 1, BYTES(item), BYTES(positions), BYTES(none), BYTES(item), BYTES(twice)) == LOMVUZE_ACCEPTED,
-          "verifying refuses the openings");
+  uint64_t verified = lomvuze_verify(0, 1, k, 1, t, 1, BYTES(item), BYTES(positions), BYTES(none), BYTES(item), BYTES(twice));
+  REQUIRE(LOMVUZE_VERDICT(verified) == LOMVUZE_ACCEPTED, "verifying refuses the openings");
 }
 
 const struct target target = {

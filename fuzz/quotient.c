@@ -1,13 +1,13 @@
 /* lomvuze_quotient */
 #include "target.h"
 
-static uint32_t run(const struct call *c) {
+static uint64_t run(const struct call *c) {
   const struct sizes *s = &c->sizes;
   return lomvuze_quotient(s->m, s->n, s->k, s->l, OVER(c), BYTES(c->in[4]), BYTES(c->in[5]), BYTES(c->out[0]));
 }
 
 /* Folding at the least challenge that is permitted gives the same answer and quotient. */
-static void compare(const struct call *c, uint32_t answer) {
+static void compare(const struct call *c, uint64_t answer) {
   const struct sizes *s = &c->sizes;
   struct buffer quotient = scratch(c->out[0].length), item = scratch(LOMVUZE_ITEM_BYTES(s->m, s->n));
   struct buffer witness = scratch(LOMVUZE_WITNESS_BYTES(s->k));

@@ -4,7 +4,7 @@
 #include <inttypes.h>
 #include <stdio.h>
 
-static uint32_t run(const struct call *c) {
+static uint64_t run(const struct call *c) {
   return lomvuze_read_sheet(BYTES(c->in[0]), BYTES(c->out[0]), BYTES(c->out[1]), BYTES(c->out[2]), BYTES(c->out[3]), BYTES(c->out[4]),
                             (uint32_t *)(void *)c->out[5].bytes);
 }
@@ -42,7 +42,7 @@ static void put_line(const char *keyword, struct buffer numbers, struct buffer r
  * The sheet is what was read, written as text: the line rules leave one way to write it, but for the last byte. Deciding finds nothing wrong
  * with sizes, elements, circuit and first inputs.
  */
-static void compare(const struct call *c, uint32_t answer) {
+static void compare(const struct call *c, uint64_t answer) {
   compare_lengths(c, answer);
   if (answer != LOMVUZE_ACCEPTED) return;
 

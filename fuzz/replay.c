@@ -1,9 +1,9 @@
 /*
- * Runs a target once on each file that is named, without a fuzzer, and prints the file's name and the call's answer.
+ * Runs a target once on each file that is named, without a fuzzer, and prints the file's name and the call's verdict.
  *
  *   replay [--every] FILE...
  *
- * With --every it fails where one of the call's answers is not given. Exit status: 0, 1 for that, 2 where a file cannot be read; the target
+ * With --every it fails where one of the call's verdicts is not given. Exit status: 0, 1 for that, 2 where a file cannot be read; the target
  * aborts where it finds something.
  */
 #include <stdio.h>
@@ -11,7 +11,7 @@
 
 #include "target.h"
 
-static bool given[32];
+static bool given[64];
 
 /* Whether the file could be read. */
 static bool replay(const char *name) {
@@ -24,8 +24,9 @@ static bool replay(const char *name) {
   fclose(stream);
   if (complete) {
     LLVMFuzzerTestOneInput(data, (size_t)size);
-    printf("%s %u\n", name, (unsigned)last_answer);
-    given[last_answer] = true;
+    uint32_t verdict = LOMVUZE_VERDICT(last_answer);
+    printf("%s %u\n", name, (unsigned)verdict);
+    given[verdict] = true;
   }
   free(data);
   return complete;
@@ -41,6 +42,6 @@ int main(int argc, char **argv) {
   }
   bool missing = every && !given[LOMVUZE_ACCEPTED];
   for (const uint32_t *check = target.checks; every && *check != 0; check++) missing = missing || !given[*check];
-  if (missing) fprintf(stderr, "replay: an answer of the call is given for no file\n");
+  if (missing) fprintf(stderr, "replay: a verdict of the call is given for no file\n");
   return missing ? 1 : 0;
 }

@@ -1,6 +1,6 @@
 #!/usr/bin/env bash
-# Runs each fuzz target once on each of its seeds, without a fuzzer, and prints the call's answer: it is the number that the seed's name starts
-# with, and every answer of the call is given; a call that takes points has seeds 0-built-in and 0-lent. Then the controls: the targets must find
+# Runs each fuzz target once on each of its seeds, without a fuzzer, and prints the call's verdict: it is the number that the seed's name starts
+# with, and every verdict of the call is given; a call that takes points has seeds 0-built-in and 0-lent. Then the controls: the targets must find
 # the faults of fault.c. Needs cc.
 # LOMVUZE_STATICLIB names another folder with libverdicts.a in it; nothing is built there.
 set -euo pipefail
@@ -14,7 +14,7 @@ mkdir -p "$folder"
 fail() { printf 'FAILED: %s\n' "$1"; exit 1; }
 
 # A program for each call that the header declares, without the faults and with them.
-calls=$(sed -n 's/^uint32_t lomvuze_\([a-z_]*\)(.*/\1/p' include/lomvuze.h)
+calls=$(sed -n 's/^uint[0-9]*_t lomvuze_\([a-z_]*\)(.*/\1/p' include/lomvuze.h)
 flags=(-std=c11 -O1 -g -Wall -Wextra -Wpedantic -Werror -Iinclude)
 checked=(-fsanitize=address,undefined -fno-sanitize-recover=undefined)
 for part in target input points leading memory replay $calls; do
@@ -28,19 +28,19 @@ for call in $calls; do
 done
 
 # ---- The seeds
-declaration() { sed -n "/^uint32_t lomvuze_$1(/,/;/p" include/lomvuze.h; }
+declaration() { sed -n "/^uint[0-9]*_t lomvuze_$1(/,/;/p" include/lomvuze.h; }
 seeds=0
 for call in $calls; do
     if declaration "$call" | grep points_len >/dev/null; then
         for seed in 0-built-in 0-lent; do [ -e "fuzz/corpus/$call/$seed" ] || fail "$call has no seed $seed"; done
     fi
-    "$folder/$call" --every fuzz/corpus/"$call"/* >"$folder/$call.answers" || fail "$call"
-    cat "$folder/$call.answers"
-    while read -r file answer; do
+    "$folder/$call" --every fuzz/corpus/"$call"/* >"$folder/$call.verdicts" || fail "$call"
+    cat "$folder/$call.verdicts"
+    while read -r file verdict; do
         name=${file##*/}
-        [ "${name%%-*}" = "$answer" ] || fail "$file: answer $answer"
+        [ "${name%%-*}" = "$verdict" ] || fail "$file: verdict $verdict"
         seeds=$((seeds + 1))
-    done <"$folder/$call.answers"
+    done <"$folder/$call.verdicts"
 done
 [ "$seeds" -gt 0 ] || fail 'no seeds'
 
@@ -64,7 +64,7 @@ for call in $calls; do
         control "$call" "$seed" reads-behind-input 'AddressSanitizer: SEGV'
         control "$call" "$seed" reads-before-input 'AddressSanitizer: SEGV'
         control "$call" "$seed" writes-input 'FOUND: an input buffer was changed'
-        control "$call" "$seed" answers-none 'FOUND: an answer that is none'
+        control "$call" "$seed" answers-none 'FOUND: a verdict that is none'
         if [ "$accepted" ]; then
             control "$call" "$seed" refuses 'FOUND: '
             control "$call" "$seed" cuts-lengths 'FOUND: a length of 2^32 more'
@@ -77,6 +77,17 @@ for call in $calls; do
                 13*) control "$call" "$seed" misses-first-inputs 'FOUND: check 13' ;;
                 [5-9]* | 1[01]*) control "$call" "$seed" refuses-first-inputs 'FOUND: check 13' ;;
             esac
+        fi
+        if compgen -G "fuzz/corpus/$call/8*" >/dev/null; then # the call counts blocks
+            case ${seed##*/} in
+                0* | [89]*) faults='counts-an-opening-more counts-a-block-less counts-no-blocks' ;;
+                *) faults=counts-what-is-not-hashed ;;
+            esac
+            case ${seed##*/} in
+                8-last*) ;; # where the last opening fails, all are hashed
+                8*) faults+=' counts-all-openings' ;;
+            esac
+            for fault in $faults; do control "$call" "$seed" $fault 'FOUND: blocks'; done
         fi
         if [[ ${seed##*/} = 0-built-in ]]; then
             control "$call" "$seed" "$([ "$writes" ] && echo writes-another-byte || echo refuses)" 'FOUND: the built-in points'
@@ -94,4 +105,4 @@ for call in $calls; do
         fi
     done
 done
-echo "fuzz targets: $seeds seeds with the answers expected; $controls faults found"
+echo "fuzz targets: $seeds seeds with the verdicts expected; $controls faults found"

@@ -16,7 +16,7 @@ folder=target/fuzz
 mkdir -p "$folder"
 seconds=${1:-60}
 calls=("${@:2}")
-[ "${#calls[@]}" -gt 0 ] || mapfile -t calls < <(sed -n 's/^uint32_t lomvuze_\([a-z_]*\)(.*/\1/p' include/lomvuze.h)
+[ "${#calls[@]}" -gt 0 ] || mapfile -t calls < <(sed -n 's/^uint[0-9]*_t lomvuze_\([a-z_]*\)(.*/\1/p' include/lomvuze.h)
 
 if command -v cargo >/dev/null; then
     cargo run --quiet --release --offline --manifest-path rust/Cargo.toml -p lomvuze-samples --example corpus -- "$folder/seeds" 100
@@ -44,7 +44,7 @@ for call in "${calls[@]}"; do
         -artifact_prefix="$folder/$call-" "${words[@]}" "$folder/kept/$call" "${seeds[@]}" >"$log" 2>&1 || found=yes
     runs=$(sed -n 's/^stat::number_of_executed_units: *//p' "$log")
     rate=$(sed -n 's/^stat::average_exec_per_sec: *//p' "$log")
-    printf '%-10s %9s runs, %6s a second; answers %s\n' "$call" "${runs:-?}" "${rate:-?}" "$(sed -n 's/^answers: //p' "$log")"
+    printf '%-10s %9s runs, %6s a second; verdicts %s\n' "$call" "${runs:-?}" "${rate:-?}" "$(sed -n 's/^verdicts: //p' "$log")"
     if [ "$found" ]; then
         status=1
         printf 'FOUND by %s: %s\n' "$call" "$log"

@@ -3,8 +3,9 @@
  *
  *   - The call touches no byte outside its buffers. Each buffer starts behind pages without access in the first run, and ends before some in
  *     the second. AddressSanitizer does not see the loads and stores of the library, which is not compiled with it.
- *   - The answer is 0 or one of the call's checks. It is LOMVUZE_SIZE exactly if a size or a length is not permitted. A length of 2^32 more is
+ *   - The verdict is 0 or one of the call's checks. It is LOMVUZE_SIZE exactly if a size or a length is not permitted. A length of 2^32 more is
  *     not, though its last 32 bits are the same. A sheet has sizes and counts too, and its lines are checked first.
+ *   - The answer is the verdict, without blocks, unless it is verifying's and LOMVUZE_OPENING was reached.
  *   - It is LOMVUZE_POINTS exactly if a point repeats another or is p or more, and LOMVUZE_SIZE and LOMVUZE_ELEMENT pass.
  *   - It is LOMVUZE_FIRST_INPUT exactly if a first input that the call tests is not 1, and the checks before it pass. With another first input it
  *     is that, or the check before it that it was.
@@ -14,37 +15,38 @@
  *     they hold those still.
  *   - What the target's comparison with other calls requires.
  */
+#include <inttypes.h>
 #include <stdio.h>
 #include <stdlib.h>
 
 #include "target.h"
 
 void found(const char *what) {
-  fprintf(stderr, "FOUND: %s (answer %u)\n", what, (unsigned)last_answer);
+  fprintf(stderr, "FOUND: %s (verdict %" PRIu32 ", %" PRIu64 " blocks)\n", what, LOMVUZE_VERDICT(last_answer), LOMVUZE_BLOCKS(last_answer));
   abort();
 }
 
 /*
  * ---- What libFuzzer is told. It keeps inputs that are accepted at new sizes, for each of the three ways to lend points, and one for each other
- * answer: a change of an accepted input reaches further than one of an input that was refused.
+ * verdict: a change of an accepted input reaches further than one of an input that was refused.
  */
 
-enum { SIZES = 7 * 6 * 8 * 3, ANSWERS = LOMVUZE_FIRST_INPUT + 1 };
+enum { SIZES = 7 * 6 * 8 * 3, VERDICTS = LOMVUZE_FIRST_INPUT + 1 };
 
-__attribute__((section("__libfuzzer_extra_counters"))) static uint8_t seen[SIZES + ANSWERS];
+__attribute__((section("__libfuzzer_extra_counters"))) static uint8_t seen[SIZES + VERDICTS];
 
-static unsigned long answers[ANSWERS];
+static unsigned long verdicts[VERDICTS];
 
-static void note(const struct sizes *s, enum which points, uint32_t answer) {
+static void note(const struct sizes *s, enum which points, uint32_t verdict) {
   size_t depth = depth_of(s->k) - depth_of(LOMVUZE_MIN_K);
-  answers[answer]++;
-  seen[answer == LOMVUZE_ACCEPTED ? ((s->m * 6 + depth) * 8 + s->l - 1) * 3 + points : SIZES + answer] = 1;
+  verdicts[verdict]++;
+  seen[verdict == LOMVUZE_ACCEPTED ? ((s->m * 6 + depth) * 8 + s->l - 1) * 3 + points : SIZES + verdict] = 1;
 }
 
-static void print_answers(void) {
-  fprintf(stderr, "answers:");
-  for (size_t i = 0; i < ANSWERS; i++) {
-    if (answers[i] > 0) fprintf(stderr, " %zu: %lu", i, answers[i]);
+static void print_verdicts(void) {
+  fprintf(stderr, "verdicts:");
+  for (size_t i = 0; i < VERDICTS; i++) {
+    if (verdicts[i] > 0) fprintf(stderr, " %zu: %lu", i, verdicts[i]);
   }
   fprintf(stderr, "\n");
 }
@@ -54,13 +56,13 @@ int LLVMFuzzerInitialize(int *argc, char ***argv);
 int LLVMFuzzerInitialize(int *argc, char ***argv) {
   (void)argc;
   (void)argv;
-  atexit(print_answers);
+  atexit(print_verdicts);
   return 0;
 }
 
 /* ---- The runs */
 
-uint32_t last_answer;
+uint64_t last_answer;
 
 enum { FIRST_FILL = 0xA5, SECOND_FILL = 0x5A };
 
@@ -77,10 +79,10 @@ size_t written(const struct call *call, size_t output) {
   }
 }
 
-static bool allowed(uint32_t answer) {
-  if (answer == LOMVUZE_ACCEPTED) return true;
+static bool allowed(uint32_t verdict) {
+  if (verdict == LOMVUZE_ACCEPTED) return true;
   for (const uint32_t *check = target.checks; *check != 0; check++) {
-    if (answer == *check) return true;
+    if (verdict == *check) return true;
   }
   return false;
 }
@@ -92,12 +94,15 @@ bool comes_before(uint32_t one, uint32_t other) {
   return false;
 }
 
+/* Whether the call counts blocks, and the check at which it does was reached. */
+static bool counts(uint32_t verdict) { return allowed(LOMVUZE_OPENING) && !comes_before(verdict, LOMVUZE_OPENING); }
+
 static bool filled(struct buffer buffer, uint8_t with) {
   return buffer.length == 0 || (buffer.bytes[0] == with && memcmp(buffer.bytes, buffer.bytes + 1, buffer.length - 1) == 0);
 }
 
-static uint32_t answer_to(const struct call *call) {
-  uint32_t answer = target.run(call);
+static uint64_t answer_to(const struct call *call) {
+  uint64_t answer = target.run(call);
   return fault ? fault(call, answer) : answer;
 }
 
@@ -115,12 +120,13 @@ static void run(const struct input *input, enum side side, uint8_t fill, struct 
   }
 
   last_answer = answer_to(call);
-  REQUIRE(allowed(last_answer), "an answer that is none of the call's checks");
+  uint32_t verdict = LOMVUZE_VERDICT(last_answer);
+  REQUIRE(allowed(verdict), "a verdict that is none of the call's checks");
   for (size_t i = 0; i < inputs; i++) {
     REQUIRE(input->lengths[i] == 0 || memcmp(call->in[i].bytes, input->contents[i], input->lengths[i]) == 0, "an input buffer was changed");
   }
   for (size_t i = 0; i < outputs; i++) {
-    REQUIRE(last_answer == LOMVUZE_ACCEPTED || filled(call->out[i], fill), "a refusal wrote");
+    REQUIRE(verdict == LOMVUZE_ACCEPTED || filled(call->out[i], fill), "a refusal wrote");
   }
 }
 
@@ -134,10 +140,10 @@ static void check_written(const struct call *first, const struct call *second, s
 }
 
 /* Makes the call with one buffer after the other longer by 2^32 bytes. A sheet is too long then, or it breaks the line rules anyway. */
-static void run_far(struct call *call, uint32_t answer) {
+static void run_far(struct call *call, uint32_t verdict) {
   for (size_t i = 0; i < buffer_count(); i++) {
     if (part_of(i) == SHEET_SIZES) continue;
-    uint32_t check = answer == LOMVUZE_SHEET || part_of(i) == SHEET ? LOMVUZE_SHEET : LOMVUZE_SIZE;
+    uint32_t check = verdict == LOMVUZE_SHEET || part_of(i) == SHEET ? LOMVUZE_SHEET : LOMVUZE_SIZE;
     struct buffer *buffer = i < input_count() ? &call->in[i] : &call->out[i - input_count()], old = *buffer;
     *buffer = far_longer(old);
     REQUIRE(answer_to(call) == check, "a length of 2^32 more is not refused by its check");
@@ -145,42 +151,42 @@ static void run_far(struct call *call, uint32_t answer) {
   }
 }
 
-/* Makes the call again with an empty buffer in the place of the built-in points: the same answer and, after 0, the same bytes. */
-static void run_without_points(const struct call *call, uint32_t answer) {
+/* Makes the call again with an empty buffer in the place of the built-in points: the same verdict and, after 0, the same bytes. */
+static void run_without_points(const struct call *call, uint32_t verdict) {
   struct call again = *call;
   again.in[0] = scratch(0);
   for (size_t i = 0; i < output_count(); i++) again.out[i] = scratch(call->out[i].length);
-  REQUIRE(target.run(&again) == answer, "the built-in points have another answer than none");
-  for (size_t i = 0; answer == LOMVUZE_ACCEPTED && i < output_count(); i++) {
+  REQUIRE(target.run(&again) == verdict, "the built-in points have another verdict than none");
+  for (size_t i = 0; verdict == LOMVUZE_ACCEPTED && i < output_count(); i++) {
     struct buffer one = call->out[i], other = again.out[i];
     REQUIRE(one.length == 0 || memcmp(one.bytes, other.bytes, one.length) == 0, "the built-in points give other bytes than none");
   }
 }
 
 /* What a call that passed check 2 does with its points. */
-static void check_points(const struct input *input, const struct call *call, uint32_t answer) {
+static void check_points(const struct input *input, const struct call *call, uint32_t verdict) {
   if (!takes_points()) return;
-  bool tested = answer != LOMVUZE_ELEMENT;
-  REQUIRE((answer == LOMVUZE_POINTS) == (tested && !points_pass(call->in[0])), "check 12 is not what the points say");
-  if (input->points == BUILT_IN) run_without_points(call, answer);
+  bool tested = verdict != LOMVUZE_ELEMENT;
+  REQUIRE((verdict == LOMVUZE_POINTS) == (tested && !points_pass(call->in[0])), "check 12 is not what the points say");
+  if (input->points == BUILT_IN) run_without_points(call, verdict);
 }
 
-/* Makes the call with 0 for a first input that is 1, in the text of a sheet too. */
-static void run_without_one(const struct call *call, enum end end, uint32_t answer) {
+/* Makes the call with 0 for a first input that is 1, in the text of a sheet too: it answers the bare number. */
+static void run_without_one(const struct call *call, enum end end, uint32_t verdict) {
   uint8_t *one = leading_one(call, end);
   if (one == NULL) return;
   *one ^= 1;
-  REQUIRE(target.run(call) == answer, "check 13 is not in its place");
+  REQUIRE(target.run(call) == verdict, "check 13 is not in its place");
   *one ^= 1;
 }
 
 /* What a call says of first inputs, where no check before that one refuses. */
-static void check_first_inputs(const struct call *call, uint32_t answer) {
-  if (!allowed(LOMVUZE_FIRST_INPUT) || answer == LOMVUZE_SHEET) return;
-  bool before = comes_before(answer, LOMVUZE_FIRST_INPUT);
-  REQUIRE(before || (answer == LOMVUZE_FIRST_INPUT) == !ones_lead(call), "check 13 is not what the first inputs say");
-  run_without_one(call, FIRST, before ? answer : LOMVUZE_FIRST_INPUT);
-  run_without_one(call, LAST, before ? answer : LOMVUZE_FIRST_INPUT);
+static void check_first_inputs(const struct call *call, uint32_t verdict) {
+  if (!allowed(LOMVUZE_FIRST_INPUT) || verdict == LOMVUZE_SHEET) return;
+  bool before = comes_before(verdict, LOMVUZE_FIRST_INPUT);
+  REQUIRE(before || (verdict == LOMVUZE_FIRST_INPUT) == !ones_lead(call), "check 13 is not what the first inputs say");
+  run_without_one(call, FIRST, before ? verdict : LOMVUZE_FIRST_INPUT);
+  run_without_one(call, LAST, before ? verdict : LOMVUZE_FIRST_INPUT);
 }
 
 int LLVMFuzzerTestOneInput(const uint8_t *data, size_t size) {
@@ -190,24 +196,26 @@ int LLVMFuzzerTestOneInput(const uint8_t *data, size_t size) {
   unpack(&input, data, size);
 
   run(&input, AT_START, FIRST_FILL, &first);
-  uint32_t answer = last_answer;
+  uint64_t answer = last_answer;
+  uint32_t verdict = LOMVUZE_VERDICT(answer);
   run(&input, AT_END, SECOND_FILL, &second);
   REQUIRE(last_answer == answer, "another answer to the same input");
   /* Backwards: the last buffer says how much a sheet gives the others. */
-  for (size_t i = answer == LOMVUZE_ACCEPTED ? output_count() : 0; i-- > 0;) check_written(&first, &second, i);
-  REQUIRE(answer == LOMVUZE_SIZE ? reads_sheet() || !fits(&input) : answer == LOMVUZE_SHEET || fits(&input),
+  for (size_t i = verdict == LOMVUZE_ACCEPTED ? output_count() : 0; i-- > 0;) check_written(&first, &second, i);
+  REQUIRE(verdict == LOMVUZE_SIZE ? reads_sheet() || !fits(&input) : verdict == LOMVUZE_SHEET || fits(&input),
           "check 2 is not what sizes and lengths say");
-  if (answer != LOMVUZE_SIZE) {
-    run_far(&second, answer);
-    check_points(&input, &second, answer);
-    check_first_inputs(&second, answer);
+  REQUIRE(counts(verdict) || LOMVUZE_BLOCKS(answer) == 0, "blocks though nothing is hashed");
+  if (verdict != LOMVUZE_SIZE) {
+    run_far(&second, verdict);
+    check_points(&input, &second, verdict);
+    check_first_inputs(&second, verdict);
     target.compare(&second, answer);
   }
-  if (answer == LOMVUZE_ACCEPTED && reads_sheet()) {
+  if (verdict == LOMVUZE_ACCEPTED && reads_sheet()) {
     const uint32_t *sizes = sizes_read(&second);
     input.sizes = (struct sizes){sizes[0], sizes[1], sizes[2], 1 + (sizes[6] - 1) % LOMVUZE_MAX_L, 1, 1};
   }
-  note(&input.sizes, input.points, answer);
+  note(&input.sizes, input.points, verdict);
   return 0;
 }
 

@@ -86,8 +86,8 @@ struct target {
   const char *numbers;                                          /* their letters, in the call's order; a is the challenge */
   enum part inputs[MOST_INPUTS + 1], outputs[MOST_OUTPUTS + 1]; /* in the call's order; END follows */
   uint32_t checks[MOST_CHECKS + 1];                             /* that the call runs, in its order; 0 follows */
-  uint32_t (*run)(const struct call *call);                     /* makes the call */
-  void (*compare)(const struct call *call, uint32_t answer);    /* compares it with other calls, after it; not for LOMVUZE_SIZE */
+  uint64_t (*run)(const struct call *call);                     /* makes the call */
+  void (*compare)(const struct call *call, uint64_t answer);    /* compares it with other calls, after it; not for LOMVUZE_SIZE */
   void (*change)(struct input *input, size_t (*below)(size_t)); /* a change of the mutator for this call alone; NULL for none */
 };
 
@@ -192,9 +192,9 @@ struct buffer far_longer(struct buffer buffer);
 /* ---- For replay.c and fault.c */
 
 int LLVMFuzzerTestOneInput(const uint8_t *data, size_t size);
-extern uint32_t last_answer;
+extern uint64_t last_answer;
 
 /* Spoils what a call has just done and gives another answer for it. Linked by the controls of replay.sh alone. */
-uint32_t fault(const struct call *call, uint32_t answer) __attribute__((weak));
+uint64_t fault(const struct call *call, uint64_t answer) __attribute__((weak));
 
 #endif

@@ -120,15 +120,18 @@
  *      new witness that fits them and holds can be found for a false item.
  *   5. lomvuze_verify and lomvuze_decide get the same bytes (the new item and the sizes), and
  *      lomvuze_decide gets the circuit and the points that were agreed on. Otherwise a fold of a
- *      false item is verified, another item is decided, and both answer 0. Points that are picked
- *      for a root of 4k different values make it that of many witnesses: then the very item that
- *      was verified is decided with another witness.
- *   6. Both answers are 0. lomvuze_verify sees no circuit and no witness, lomvuze_decide sees one
- *      item: for a fold of a false item the one answers 0 and the other LOMVUZE_CLAIM.
- *   7. Where a new item is folded again, its own fold is verified, answer 0, with the very bytes
- *      that are folded above. Otherwise another item stands in its place, and every call answers 0.
+ *      false item is verified, another item is decided, and both verdicts are 0. Points that are
+ *      picked for a root of 4k different values make it that of many witnesses: then the very item
+ *      that was verified is decided with another witness.
+ *   6. Both verdicts are 0. lomvuze_verify sees no circuit and no witness, lomvuze_decide sees one
+ *      item: for a fold of a false item the one's verdict is 0 and the other's LOMVUZE_CLAIM. The
+ *      verdict of lomvuze_verify is LOMVUZE_VERDICT of what it returns. What it returns is not 0
+ *      where it accepts (see BLOCKS), so `if (lomvuze_verify(..) != 0)` is wrong: it is true for
+ *      every accepted fold.
+ *   7. Where a new item is folded again, its own fold is verified, verdict 0, with the very bytes
+ *      that are folded above. Otherwise another item stands in its place, and every verdict is 0.
  *
- * What one accepted fold (both answers 0) establishes: the new item is the combination of exactly
+ * What one accepted fold (both verdicts 0) establishes: the new item is the combination of exactly
  * the l items lent, at this challenge, and holds with a witness of its root; each of these items
  * has 1 as its first input; each opened value of each item leads to that item's root. Its verdict
  * covers these l items and no others. Where they are the new items of folds below, it is about
@@ -151,25 +154,71 @@
  *   lomvuze_interleave  the openings of all of them, in the order in which lomvuze_verify reads
  *                       them
  *   lomvuze_verify      tests a fold by items, quotient, new item and openings, without circuit
- *                       or witness
+ *                       or witness, and counts the SHA-256 blocks that this takes
  *   lomvuze_decide      tests one item, such as the last new one, with its circuit and witness
  *
  *   lomvuze_encode      codeword and root of a witness
  *   lomvuze_quotient    the quotient alone
  *   lomvuze_read_sheet  sizes, circuit, items and witnesses from a sheet of text
  *
- *   lomvuze_strerror    what an answer means
+ *   lomvuze_strerror    what a verdict means
  *   lomvuze_version     the version of the library
  *
  * ANSWERS
  *
- * Each of the eight calls and the sheet reader returns 0 or the number of the first of its checks
- * that fails (enum lomvuze_answer). Each check covers the whole input before the next one runs, in
- * the order that stands at each call: LOMVUZE_POINTS, which is 12, comes directly after 3, and
- * LOMVUZE_FIRST_INPUT, which is 13, directly after 4 (in verify, which has no 4, directly after 3).
- * What a call returns and writes depends on its arguments alone.
+ * The verdict of a call, of the eight and of the sheet reader, is 0 or the number of the first of
+ * its checks that fails (enum lomvuze_answer). Each check covers the whole input before the next
+ * one runs, in the order that stands at each call: LOMVUZE_POINTS, which is 12, comes directly
+ * after 3, and LOMVUZE_FIRST_INPUT, which is 13, directly after 4 (in verify, which has no 4,
+ * directly after 3).
  *
- * A call that does not return 0 has written nothing: its output buffers are as they were.
+ * The answer is what a call returns. It is the verdict itself, but for lomvuze_verify, whose answer
+ * also has a count: see BLOCKS. What a call returns and writes depends on its arguments alone.
+ *
+ * A call whose verdict is not 0 has written nothing: its output buffers are as they were.
+ *
+ * BLOCKS
+ *
+ * lomvuze_verify returns, as one number of 64 bits, 64 * blocks + verdict, where blocks is how many
+ * SHA-256 blocks it processed.
+ *
+ *   LOMVUZE_VERDICT(answer)         the verdict, a uint32_t: the answer modulo 64
+ *   LOMVUZE_BLOCKS(answer)          the blocks, a uint64_t: the answer divided by 64
+ *   LOMVUZE_VERIFY_BLOCKS(k, l, t)  t * (l + 1) * (1 + 2 * log2(4k)), a uint64_t: the blocks of an
+ *                                   accepted fold; 0 where a size is not permitted
+ *
+ * Counted are the blocks that FIPS 180-4 gives, with padding, for the messages hashed up to the
+ * verdict. An opening has one leaf, 9 bytes and so one block, and log2(4k) inner nodes, each of 65
+ * bytes and so two blocks. Openings are hashed position by position and, within one, item by item,
+ * the new item last, each of them whole. Hashing ends with the first opening that does not lead to
+ * its root.
+ *
+ *   verdict            blocks                                         theorem
+ *   0                  LOMVUZE_VERIFY_BLOCKS(k, l, t)                 accepted-blocks
+ *   9                  the same, since all openings are hashed        refused-by-9
+ *   8                  (j + 1) * (1 + 2 * log2(4k)), where opening    refused-by-8
+ *                      number j, from 0 and in that order, is the
+ *                      first that does not lead to its root
+ *   2, 3, 13, 5, 6, 7  0: the answer is the bare number               refused-before-8
+ *
+ * The count is never over LOMVUZE_VERIFY_BLOCKS(k, l, t) (blocks-at-most). Modulo 64 and divided by
+ * 64, an answer gives verdict and count back (answer-read-back). These theorems are about what
+ * lomvuze_verify is proved to return, and stand in crates/theory/proofs/BlockCount.antt. The
+ * greatest count of all is 256 * 9 * 17 = 39,168, for k = 64, l = 8 and t = 256.
+ *
+ * To plan load: the sizes alone say, before the call, how many blocks it takes at most, and an
+ * accepted fold takes just as many. The answer says afterwards how many it took: fewer where
+ * hashing ended early or did not start. Hashing is most of the time that an accepted fold takes, at
+ * the greatest sizes nearly all of it, so that the time of a block, measured once on your machine,
+ * tells the time of a call.
+ *
+ * Both statements that are proved about the calls (docs/AUDIT.md) speak of the verdict alone: where
+ * they say that verifying answers 0, the verdict is 0. The count says how much was hashed, and
+ * nothing about the items.
+ *
+ * Before version 0.5.0 lomvuze_verify returned the verdict alone, a uint32_t. Programs are compiled
+ * anew, and take LOMVUZE_VERDICT of what it returns. One that still compares the whole with 0 takes
+ * every accepted fold for a refused one. All other calls return what they did.
  *
  * MEMORY
  *
@@ -184,14 +233,14 @@
  * - The deepest stack of each call, in bytes: measured at the greatest sizes, arguments included,
  *   and rounded up.
  *
- *     lomvuze_encode     4,096
- *     lomvuze_cast       4,608
+ *     lomvuze_encode     4,608
+ *     lomvuze_cast       5,120
  *     lomvuze_quotient   5,120
- *     lomvuze_fold       6,656
+ *     lomvuze_fold       7,168
  *     lomvuze_open      19,968
  *     lomvuze_interleave   512
  *     lomvuze_verify     2,560
- *     lomvuze_decide     4,608
+ *     lomvuze_decide     5,120
  *     lomvuze_read_sheet 50,688
  *
  * - The time that a call takes may depend on the numbers in its buffers.
@@ -209,7 +258,7 @@ extern "C" {
 /* ---- The version of this header: numbers, and the text "MAJOR.MINOR.PATCH" */
 
 #define LOMVUZE_VERSION_MAJOR 0
-#define LOMVUZE_VERSION_MINOR 4
+#define LOMVUZE_VERSION_MINOR 5
 #define LOMVUZE_VERSION_PATCH 0
 #define LOMVUZE_VERSION \
   LOMVUZE_TEXT(LOMVUZE_VERSION_MAJOR, LOMVUZE_VERSION_MINOR, LOMVUZE_VERSION_PATCH)
@@ -233,14 +282,16 @@ extern "C" {
 
 /*
  * The macros with arguments take any integer type, are constant where the arguments are, and
- * evaluate them more than once. As a size, a negative argument is above every limit. (The sum is
- * for gcc, which warns where a narrow type has only values within a limit.)
+ * evaluate them more than once, but for LOMVUZE_VERDICT and LOMVUZE_BLOCKS, which evaluate theirs
+ * once. As a size, a negative argument is above every limit. (The sum is for gcc, which warns where
+ * a narrow type has only values within a limit.)
  */
 #ifdef __cplusplus
-#define LOMVUZE_AS_SIZE(x) (static_cast<size_t>(x) + 0)
+#define LOMVUZE_AS(type, x) static_cast<type>(x)
 #else
-#define LOMVUZE_AS_SIZE(x) ((size_t)(x) + 0)
+#define LOMVUZE_AS(type, x) ((type)(x))
 #endif
+#define LOMVUZE_AS_SIZE(x) (LOMVUZE_AS(size_t, x) + 0)
 
 /* log2(4k): the levels of the tree over a codeword. 4k: the greatest t. 0 for any other k. */
 #define LOMVUZE_DEPTH(k)                         \
@@ -404,6 +455,21 @@ enum lomvuze_answer {
 };
 
 /*
+ * ---- Verdict and blocks: see BLOCKS above
+ *
+ * What an answer of lomvuze_verify has, and the blocks of an accepted fold. An answer of any other
+ * call is its verdict, with no blocks.
+ */
+
+#define LOMVUZE_VERDICT(answer) LOMVUZE_AS(uint32_t, LOMVUZE_AS(uint64_t, answer) % 64)
+#define LOMVUZE_BLOCKS(answer) (LOMVUZE_AS(uint64_t, answer) / 64)
+#define LOMVUZE_VERIFY_BLOCKS(k, l, t)                                                      \
+  LOMVUZE_AS(uint64_t,                                                                      \
+             LOMVUZE_IS_K(k) && LOMVUZE_IS_L(l) && LOMVUZE_IS_T(k, t)                       \
+                 ? LOMVUZE_AS_SIZE(t) * (LOMVUZE_AS_SIZE(l) + 1) * (1 + 2 * LOMVUZE_DEPTH(k)) \
+                 : 0)
+
+/*
  * Writes the codeword of a witness and the root of the tree over it.
  *
  *   points    LOMVUZE_POINTS_BYTES(k), or none for the built-in points
@@ -526,7 +592,8 @@ uint32_t lomvuze_interleave(uint32_t k, uint32_t l, uint32_t t,
 
 /*
  * Verifies a fold of l items at t positions. It sees neither circuit nor witness, takes no points,
- * and has no output buffer.
+ * and has no output buffer. Returns 64 * blocks + verdict: take it apart by LOMVUZE_VERDICT and
+ * LOMVUZE_BLOCKS. An accepted fold has the verdict 0 and LOMVUZE_VERIFY_BLOCKS(k, l, t) blocks.
  *
  *   challenge  l to p - 1
  *   items      LOMVUZE_ITEMS_BYTES(m, n, l)
@@ -540,9 +607,10 @@ uint32_t lomvuze_interleave(uint32_t k, uint32_t l, uint32_t t,
  * Checks, in this order: LOMVUZE_SIZE, LOMVUZE_ELEMENT, LOMVUZE_FIRST_INPUT, LOMVUZE_CHALLENGE,
  * LOMVUZE_POSITION, LOMVUZE_NEW_ITEM, LOMVUZE_OPENING, LOMVUZE_COMBINATION. A challenge of p or
  * more is LOMVUZE_CHALLENGE, not LOMVUZE_ELEMENT. Another first input of new_item than 1 is
- * LOMVUZE_NEW_ITEM, not LOMVUZE_FIRST_INPUT, which is about the l items.
+ * LOMVUZE_NEW_ITEM, not LOMVUZE_FIRST_INPUT, which is about the l items. Nothing is hashed before
+ * LOMVUZE_OPENING: a refusal by a check that comes before it is returned as the bare number.
  */
-uint32_t lomvuze_verify(uint32_t m, uint32_t n, uint32_t k, uint32_t l, uint32_t t,
+uint64_t lomvuze_verify(uint32_t m, uint32_t n, uint32_t k, uint32_t l, uint32_t t,
                         uint32_t challenge,
                         const uint8_t *items, size_t items_len,
                         const uint8_t *positions, size_t positions_len,
@@ -593,10 +661,11 @@ uint32_t lomvuze_read_sheet(const uint8_t *sheet, size_t sheet_len,
                             uint32_t sizes_out[7]);
 
 /*
- * What an answer means, in a few words of English: "accepted" for 0, "unknown answer" for a number
- * that no call returns. The text is constant and is not to be freed.
+ * What a verdict means, in a few words of English: "accepted" for 0, "unknown answer" for a number
+ * that is no verdict. What lomvuze_verify returns is none where blocks were processed, also where
+ * it accepts: pass LOMVUZE_VERDICT of it. The text is constant and is not to be freed.
  */
-const char *lomvuze_strerror(uint32_t answer);
+const char *lomvuze_strerror(uint32_t verdict);
 
 /* The version of the library: LOMVUZE_VERSION of the header that it was built with. */
 const char *lomvuze_version(void);

@@ -9,8 +9,9 @@
  *
  * For the built-in points pass {}, or built_in_points(), which says so.
  *
- * Nothing else differs: lomvuze.h says what each call takes, answers and writes. Lengths must be
- * exact, so no container is resized. Nothing is copied, and nothing is thrown.
+ * Nothing else differs: lomvuze.h says what each call takes, answers and writes. So verify returns
+ * the whole answer: LOMVUZE_VERDICT and LOMVUZE_BLOCKS take it apart. Lengths must be exact, so no
+ * container is resized. Nothing is copied, and nothing is thrown.
  */
 #ifndef LOMVUZE_HPP
 #define LOMVUZE_HPP
@@ -107,7 +108,7 @@ inline uint32_t interleave(uint32_t k, uint32_t l, uint32_t t, in opened, out op
   return lomvuze_interleave(k, l, t, opened.data(), opened.size(), openings.data(), openings.size());
 }
 
-inline uint32_t verify(uint32_t m, uint32_t n, uint32_t k, uint32_t l, uint32_t t, uint32_t challenge, in items,
+inline uint64_t verify(uint32_t m, uint32_t n, uint32_t k, uint32_t l, uint32_t t, uint32_t challenge, in items,
                        in positions, in quotient, in new_item, in openings) noexcept {
   return lomvuze_verify(m, n, k, l, t, challenge, items.data(), items.size(), positions.data(), positions.size(),
                         quotient.data(), quotient.size(), new_item.data(), new_item.size(), openings.data(),

@@ -17,6 +17,6 @@ status=0
 target/verify_batch $changed || status=$?
 [ "$status" = 1 ] || { echo "verify_batch ended with status $status, where a refusal is 1" >&2; exit 1; }
 cat <<'END'
-7 says that the new item is not the one that these items, quotient and challenge give. Deciding sees the new item alone, which nobody
-changed, and so answers 0: a fold is accepted where both answers are 0.
+7 says that the new item is not the one that these items, quotient and challenge give: it is found before an opening is hashed. Deciding
+sees the new item alone, which nobody changed, and so answers 0: a fold is accepted where both verdicts are 0.
 END

@@ -29,6 +29,7 @@ for compiler in g++ clang++; do
     for standard in c++11 c++14 c++17 c++20; do
         $compiler -std=$standard "${plus[@]}" -fsyntax-only tests/c/containers.cc
         $compiler -std=$standard "${plus[@]}" -fsyntax-only -x c++ tests/c/lengths.c
+        $compiler -std=$standard "${plus[@]}" -fsyntax-only -x c++ tests/c/blocks.c
         ways=$((ways + 1))
     done
 done
@@ -37,12 +38,13 @@ echo "C and C++: no warning under $ways compilers and standards"
 
 # ---- What the headers have beside the calls
 cc -std=c11 -O1 "${flags[@]}" -o "$folder/lengths" tests/c/lengths.c
-for program in plain first_input; do
+for program in plain first_input blocks; do
     cc -std=c11 -O1 "${flags[@]}" -o "$folder/$program" "tests/c/$program.c" $library
 done
 c++ -std=c++11 -O1 "${plus[@]}" -o "$folder/containers" tests/c/containers.cc $library
 c++ -std=c++11 -O1 "${plus[@]}" -o "$folder/lengths_plus" -x c++ tests/c/lengths.c
-for program in lengths lengths_plus plain first_input containers; do
+c++ -std=c++11 -O1 "${plus[@]}" -o "$folder/blocks_plus" -x c++ tests/c/blocks.c -x none $library
+for program in lengths lengths_plus plain first_input blocks blocks_plus containers; do
     ${LOMVUZE_RUN:-} "$folder/$program" || { echo "FAILED: $program"; exit 1; }
 done
 
@@ -106,43 +108,47 @@ expect fold_batch examples/c/batch.bin 2 ""
 expect verify_batch examples/c/batch.bin 0 "$(tail -n 3 examples/c/fold_batch.expected)"
 
 # Header: 44 bytes. Circuit: 15 entries of 12. Items: 8 of 60. Positions: 64. Quotient: 84. New item: 60. Openings: 144 of 164. Witness: 32.
+# k = 8: an opening has one leaf, of one block, and log2(32) = 5 inner nodes, of two.
+blocks() { echo "$1 of at most $((144 * 11)) SHA-256 blocks"; }
 damage batch.bin 28 '\007\000\000\000' # the challenge 7, a node
-expect verify_batch "$folder/damaged.bin" 1 "verify 5: the challenge is not permitted
+expect verify_batch "$folder/damaged.bin" 1 "verify 5: the challenge is not permitted; $(blocks 0)
 decide 0: accepted
 $none"
 damage batch.bin 44 '\004' # the first entry of A in row 4 of 4
-expect verify_batch "$folder/damaged.bin" 1 "verify 0: accepted
+expect verify_batch "$folder/damaged.bin" 1 "verify 0: accepted; $(blocks 1584)
 decide 4: a circuit entry is outside or out of order
 $none"
 damage batch.bin 224 '\001\000\000\000' # item 0's e
 expect verify_batch "$folder/damaged.bin" 1 "item 0: e = 1, which is no fresh statement
-verify 7: the new item is not the one of the challenge
+verify 7: the new item is not the one of the challenge; $(blocks 0)
 decide 0: accepted
 $none"
 for offset in 236 296 356 416 476 536 596 656; do # each item's first input
     damage batch.bin $offset '\002'
-    expect verify_batch "$folder/damaged.bin" 1 "verify 13: an item's first input is not 1
+    expect verify_batch "$folder/damaged.bin" 1 "verify 13: an item's first input is not 1; $(blocks 0)
 decide 0: accepted
 $none"
 done
 damage batch.bin 864 '\002' # the new item's first input
-expect verify_batch "$folder/damaged.bin" 1 "verify 7: the new item is not the one of the challenge
+expect verify_batch "$folder/damaged.bin" 1 "verify 7: the new item is not the one of the challenge; $(blocks 0)
 decide 13: an item's first input is not 1
 $none"
 damage batch.bin 704 '\040' # position 32 of 32
-expect verify_batch "$folder/damaged.bin" 1 "verify 6: a position is outside the codeword
+expect verify_batch "$folder/damaged.bin" 1 "verify 6: a position is outside the codeword; $(blocks 0)
 decide 0: accepted
 $none"
 damage batch.bin 912 '\377\377\377\377' # the first opened value
-expect verify_batch "$folder/damaged.bin" 1 "verify 3: an element is p or more
+expect verify_batch "$folder/damaged.bin" 1 "verify 3: an element is p or more; $(blocks 0)
 decide 0: accepted
 $none"
-damage batch.bin 916 '\000\000\000\000' # the first sibling digest of the first opening
-expect verify_batch "$folder/damaged.bin" 1 "verify 8: an opening does not lead to its root
+for opening in 0 1 8 9 71 143; do # the first sibling digest of an opening, which is hashed whole, and none behind it
+    damage batch.bin $((912 + 164 * opening + 4)) '\000\000\000\000'
+    expect verify_batch "$folder/damaged.bin" 1 "verify 8: an opening does not lead to its root; $(blocks $((11 * (opening + 1))))
 decide 0: accepted
 $none"
+done
 damage batch.bin 24528 '\000\000\000\000' # the first number of the new witness
-expect verify_batch "$folder/damaged.bin" 1 "verify 0: accepted
+expect verify_batch "$folder/damaged.bin" 1 "verify 0: accepted; $(blocks 1584)
 decide 10: a root is not that of its witness
 $none"
 damage batch.bin 8 '\007' # m = 7

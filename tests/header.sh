@@ -1,6 +1,6 @@
 #!/usr/bin/env bash
-# The header's prototypes are those of crates/verdicts/src/lib.rt: the same calls, and of each the parameters, their names, order, types and
-# constness, with a length behind each buffer's pointer. Then the control: changed headers are told from it. The header's answers, the texts of
+# The header's prototypes are those of crates/verdicts/src/lib.rt: the same calls, and of each what it returns and the parameters, their names, order,
+# types and constness, with a length behind each buffer's pointer. Then the control: changed headers are told from it. The header's answers, the texts of
 # lomvuze_strerror and those in the man pages agree, and so do the versions.
 set -euo pipefail
 cd "$(dirname "$0")/.."
@@ -20,10 +20,13 @@ exported() {
                 if (call == "lomvuze_quotient" && name == "out") return "quotient"
                 return call == "lomvuze_verify" && name == "item" ? "new_item" : name
             }
+            function returned(type) {
+                return type == "u32" ? "uint32_t" : type == "u64" ? "uint64_t" : "a type without a rule: " type
+            }
             {
                 call = $1
                 line = 0
-                say("returns " ($3 == "u32" ? "uint32_t" : $3))
+                say("returns " returned($3))
                 count = split($2, parameters, /, */)
                 for (i = 1; i <= count; i++) {
                     split(parameters[i], part, /: */)
@@ -70,11 +73,13 @@ noticed '/^uint32_t lomvuze_decide(/,/;/{/points/d}'
 noticed '/^uint32_t lomvuze_open(/,/;/s/uint8_t \*openings_out/const uint8_t *openings_out/'
 noticed '/^uint32_t lomvuze_cast(/,/;/s/size_t r_len/uint32_t r_len/'
 noticed '/^uint32_t lomvuze_fold(/,/;/{s/items/other/g;s/wits/items/g;s/other/wits/g}'
-noticed '/^uint32_t lomvuze_verify(/,/;/s/uint32_t l, uint32_t t/uint32_t t, uint32_t l/'
+noticed '/^uint64_t lomvuze_verify(/,/;/s/uint32_t l, uint32_t t/uint32_t t, uint32_t l/'
 noticed '/^uint32_t lomvuze_encode(/,/;/s/, size_t root_out_len//'
 noticed 's/uint32_t sizes_out\[7\]/uint32_t sizes_out[8]/'
 noticed 's/^uint32_t lomvuze_quotient(/uint32_t lomvuze_quotients(/'
-noticed 's/^uint32_t lomvuze_verify(/int lomvuze_verify(/'
+noticed 's/^uint64_t lomvuze_verify(/uint32_t lomvuze_verify(/'
+noticed 's/^uint32_t lomvuze_decide(/uint64_t lomvuze_decide(/'
+noticed 's/^uint32_t lomvuze_open(/int lomvuze_open(/'
 
 # ---- Answers: the header's, those of lomvuze_strerror, and those of the man pages
 texts=$(sed -n 's/.*case \(LOMVUZE_[A-Z_]*\): return "\(.*\)";/\1 \2/p' c/lomvuze.c)

@@ -41,7 +41,7 @@ done
 "$to/bin/claims" <"$examples/sheets/printed.sheet" | diff examples/sheets/printed.listing -
 
 # ---- The shared library: it exports what the header declares, and nothing else; its name, links and version
-declared=$(sed -n 's/^\(uint32_t \|const char \*\)\(lomvuze_[a-z_]*\)(.*/\2/p' "$to/include/lomvuze.h" | sort)
+declared=$(sed -n 's/^\(uint[0-9]*_t \|const char \*\)\(lomvuze_[a-z_]*\)(.*/\2/p' "$to/include/lomvuze.h" | sort)
 diff <(echo "$declared") <(nm -D --defined-only "$to/lib/liblomvuze.so" | awk '{ print $NF }' | sort) || fail 'the shared library (>) exports other names than the header declares (<)'
 diff <(echo "$declared") <(nm --defined-only --extern-only "$to/lib/liblomvuze.a" | awk 'NF == 3 { print $3 }' | sort) || fail 'the archive (>) has other global names'
 [ "$(readlink "$to/lib/liblomvuze.so")" = "$soname" ] && [ "$(readlink "$to/lib/$soname")" = "liblomvuze.so.$version" ] || fail 'the links'

@@ -1,5 +1,5 @@
 /*
- * What both programs need: a stored file part by part, the numbers in it, and how an answer is printed (README.md gives the formats).
+ * What both programs need: a stored file part by part, the numbers in it, and how verdicts and blocks are printed (README.md gives the formats).
  */
 #ifndef BATCH_H
 #define BATCH_H
@@ -120,10 +120,18 @@ static inline bool fresh(const struct front *front) {
   return true;
 }
 
-/* Prints the answer of a call; whether it is 0. */
-static inline bool report(const char *call, uint32_t answer) {
-  printf("%s %" PRIu32 ": %s\n", call, answer, lomvuze_strerror(answer));
-  return answer == LOMVUZE_ACCEPTED;
+/* Prints the verdict of a call; whether it is 0. */
+static inline bool report(const char *call, uint32_t verdict) {
+  printf("%s %" PRIu32 ": %s\n", call, verdict, lomvuze_strerror(verdict));
+  return verdict == LOMVUZE_ACCEPTED;
+}
+
+/* The same for an answer of lomvuze_verify, with the blocks that it processed and the most that the sizes permit. */
+static inline bool report_verify(const struct front *front, uint64_t answer) {
+  uint32_t verdict = LOMVUZE_VERDICT(answer);
+  printf("verify %" PRIu32 ": %s; %" PRIu64 " of at most %" PRIu64 " SHA-256 blocks\n", verdict, lomvuze_strerror(verdict),
+         LOMVUZE_BLOCKS(answer), LOMVUZE_VERIFY_BLOCKS(front->k, front->l, front->t));
+  return verdict == LOMVUZE_ACCEPTED;
 }
 
 /* Says which items the verdict covers: all l, where nothing was refused, and else none. The exit status. */

@@ -4,7 +4,7 @@
  *
  *   fold_batch FILE
  *
- * Prints what is folded and the answer of each call, and stops at the first one that is not 0, or at an item with an e that is not 0. The
+ * Prints what is folded and the verdict of each call, and stops at the first one that is not 0, or at an item with an e that is not 0. The
  * last line says which items the verdict covers. Exit status: 0 where it covers them, 1 where it covers none, 2 where FILE has no statements.
  */
 #include "batch.h"
@@ -75,7 +75,7 @@ static bool fold(const struct front *f, struct part witnesses) {
 }
 
 static bool verify(const struct front *f, struct part positions) {
-  return report("verify", lomvuze_verify(f->m, f->n, f->k, f->l, f->t, f->challenge,
+  return report_verify(f, lomvuze_verify(f->m, f->n, f->k, f->l, f->t, f->challenge,
                                          f->items.bytes, f->items.length,
                                          positions.bytes, positions.length,
                                          quotient, LOMVUZE_QUOTIENT_BYTES(f->m, f->l),

@@ -3,8 +3,8 @@
  *
  *   verify_batch FILE
  *
- * Prints the answer of each call and, on the last line, which items the verdict covers. Exit status: 0 where it covers them, 1 where it
- * covers none, 2 where FILE is no batch.
+ * Prints the verdict of each call, with the SHA-256 blocks that verifying processed, and on the last line which items the verdict covers. Exit
+ * status: 0 where it covers them, 1 where it covers none, 2 where FILE is no batch.
  */
 #include "batch.h"
 
@@ -24,12 +24,12 @@ int main(int argc, char **argv) {
   if (!finished(&rest)) return 2;
 
   bool statements = fresh(&f);
-  bool verified = report("verify", lomvuze_verify(f.m, f.n, f.k, f.l, f.t, f.challenge,
-                                                  f.items.bytes, f.items.length,
-                                                  positions.bytes, positions.length,
-                                                  quotient.bytes, quotient.length,
-                                                  item.bytes, item.length,
-                                                  openings.bytes, openings.length));
+  bool verified = report_verify(&f, lomvuze_verify(f.m, f.n, f.k, f.l, f.t, f.challenge,
+                                                   f.items.bytes, f.items.length,
+                                                   positions.bytes, positions.length,
+                                                   quotient.bytes, quotient.length,
+                                                   item.bytes, item.length,
+                                                   openings.bytes, openings.length));
   bool decided = report("decide", lomvuze_decide(f.m, f.n, f.k,
                                                  LOMVUZE_BUILT_IN_POINTS,
                                                  f.a.bytes, f.a.length,

@@ -7,6 +7,9 @@ use buffers::*;
 use lomvuze_reference::field::P;
 use lomvuze_samples::bytes;
 
+#[path = "edges/blocks.rs"]
+mod blocks;
+
 #[path = "edges/buffers.rs"]
 mod buffers;
 
@@ -30,7 +33,7 @@ mod sizes;
 
 #[test]
 fn the_fold_is_accepted() {
-    assert_eq!(answers(|_| ()), [0; 8]);
+    assert_eq!(verdicts(|_| ()), [0; 8]);
 }
 
 #[test]

@@ -27,6 +27,11 @@ static_assert(!std::is_convertible<const uint8_t (&)[4], lomvuze::out>::value, "
 static_assert(!std::is_convertible<const char (&)[4], lomvuze::in>::value, "a literal, with its last 0, is not read");
 static_assert(!std::is_convertible<int, lomvuze::in>::value, "nor is a number");
 
+/* ---- What is returned */
+
+static_assert(std::is_same<decltype(lomvuze::verify(0, 1, 2, 1, 1, 1, {}, {}, {}, {}, {})), uint64_t>::value, "the whole answer");
+static_assert(std::is_same<decltype(lomvuze::decide(0, 1, 2, {}, {}, {}, {}, {}, {})), uint32_t>::value, "a verdict");
+
 /* ---- The chain */
 
 static bytes numbers(std::initializer_list<uint32_t> list) {
@@ -64,7 +69,9 @@ static void chain(const bytes &points) {
     opened = opened + one;
   }
   REQUIRE(lomvuze::interleave(2, 2, 3, opened, openings) == LOMVUZE_ACCEPTED);
-  REQUIRE(lomvuze::verify(0, 2, 2, 2, 3, 2, items, positions, quotient, item, openings) == LOMVUZE_ACCEPTED);
+  const uint64_t verified = lomvuze::verify(0, 2, 2, 2, 3, 2, items, positions, quotient, item, openings);
+  REQUIRE(LOMVUZE_VERDICT(verified) == LOMVUZE_ACCEPTED && LOMVUZE_BLOCKS(verified) == LOMVUZE_VERIFY_BLOCKS(2, 2, 3));
+  REQUIRE(lomvuze::verify(0, 2, 2, 2, 3, 1, items, positions, quotient, item, openings) == LOMVUZE_CHALLENGE);
   REQUIRE(lomvuze::decide(0, 2, 2, points, a, b, c, item, w) == LOMVUZE_ACCEPTED);
   REQUIRE(lomvuze::decide(0, 2, 2, points, a, b, c, item0, w) == LOMVUZE_ROOT);
   REQUIRE(lomvuze::decide(0, 2, 2, points, b, a, a, item, w) == LOMVUZE_CLAIM);

@@ -77,8 +77,8 @@ static uint32_t fold(uint32_t challenge) {
 }
 
 static uint32_t verify(uint32_t challenge) {
-  return lomvuze_verify(M, N, K, L, T, challenge, items[0], sizeof items, positions, sizeof positions, quotient, sizeof quotient,
-                        new_item, sizeof new_item, openings, sizeof openings);
+  return LOMVUZE_VERDICT(lomvuze_verify(M, N, K, L, T, challenge, items[0], sizeof items, positions, sizeof positions, quotient, sizeof quotient,
+                                        new_item, sizeof new_item, openings, sizeof openings));
 }
 
 static uint32_t decide(const uint8_t *item, const uint8_t *wit) {

@@ -21,6 +21,8 @@ static_assert(LOMVUZE_QUOTIENT_BYTES(6, 8) == 196 && LOMVUZE_QUOTIENT_BYTES(0, 1
 static_assert(LOMVUZE_QUOTIENT_BYTES(0, 0) == SIZE_MAX && LOMVUZE_QUOTIENT_BYTES(-1, 1) == SIZE_MAX, "no quotient");
 static_assert(LOMVUZE_POINTS_BYTES(64) == 1024 && LOMVUZE_POINTS_BYTES(0) == SIZE_MAX, "points");
 static_assert(LOMVUZE_DEPTH(64) == 8 && LOMVUZE_DEPTH(63) == 0 && LOMVUZE_MAX_T(3) == 0, "k");
+static_assert(LOMVUZE_VERIFY_BLOCKS(64, 8, 256) == 39168 && LOMVUZE_VERIFY_BLOCKS(2, 1, 1) == 14, "the most and the fewest blocks");
+static_assert(LOMVUZE_VERIFY_BLOCKS(64, 8, 257) == 0 && LOMVUZE_VERIFY_BLOCKS(2, 1, -1) == 0, "no blocks");
 
 /* ---- What is expected. Where an argument is out of its limits, SIZE_MAX. */
 
@@ -78,6 +80,8 @@ static void try_three(size_t x, size_t y, size_t z) {
   SAME(LOMVUZE_ITEMS_BYTES(x, y, z), times(z, 64, item(x, y)));
   size_t all = times(y + 1, 9, times(z, is_k(x) ? 4 * x : 0, opening(x)));
   SAME(LOMVUZE_ALL_OPENINGS_BYTES(x, y, z), y == 0 || y > 8 ? SIZE_MAX : all);
+  bool permitted = is_k(x) && 1 <= y && y <= 8 && 1 <= z && z <= 4 * x;
+  SAME(LOMVUZE_VERIFY_BLOCKS(x, y, z), permitted ? z * (y + 1) * (1 + 2 * depth(x)) : 0);
 }
 
 /* The same numbers in each integer type. */
@@ -88,6 +92,8 @@ static void try_three(size_t x, size_t y, size_t z) {
     SAME(LOMVUZE_ITEMS_BYTES(x, x, x), times(number, 64, item(number, number)));                     \
     SAME(LOMVUZE_QUOTIENT_BYTES(x, x), 4 * (number - 1) * (number + 1));                             \
     SAME(LOMVUZE_ALL_OPENINGS_BYTES(x, x, x), times(number, 8, 3 * opening(number)));                \
+    SAME(LOMVUZE_VERIFY_BLOCKS(x, x, x), 3 * number * (1 + 2 * depth(number)));                      \
+    SAME(LOMVUZE_VERDICT(x), number);                                                                \
     SAME(LOMVUZE_IS_M(x) && LOMVUZE_IS_N(x) && LOMVUZE_IS_K(x) && LOMVUZE_IS_L(x), true);            \
   } while (0)
 
@@ -106,6 +112,7 @@ static void try_types(void) {
   SAME(LOMVUZE_ENTRIES_BYTES(minus), SIZE_MAX);
   SAME(LOMVUZE_ITEMS_BYTES(2, 2, minus), SIZE_MAX);
   SAME(LOMVUZE_MAX_T(minus), 0);
+  SAME(LOMVUZE_VERIFY_BLOCKS(2, 2, minus), 0);
   const bool one = true;
   SAME(LOMVUZE_R_BYTES(one), 4);
 }

@@ -1,5 +1,5 @@
 /*
- * What the header has beside the calls: the texts of answers, the version, and empty buffers. A call gets them from LOMVUZE_EMPTY, from
+ * What the header has beside the calls: the texts of verdicts, the version, and empty buffers. A call gets them from LOMVUZE_EMPTY, from
  * lomvuze_in and lomvuze_out over null, and as null itself: what the library promises nothing about, and as it is compiled does no harm.
  */
 #include <string.h>
@@ -33,8 +33,8 @@ static uint32_t sizes[7];
     REQUIRE(lomvuze_open(2, 1, EMPTY_IN, w, sizeof w, position, sizeof position, opened, sizeof opened / 2) == 0);                         \
     REQUIRE(lomvuze_open(2, 1, EMPTY_IN, new_w, sizeof w, position, sizeof position, opened + sizeof opened / 2, sizeof opened / 2) == 0); \
     REQUIRE(lomvuze_interleave(2, 1, 1, opened, sizeof opened, openings, sizeof openings) == 0);                                           \
-    REQUIRE(lomvuze_verify(0, 1, 2, 1, 1, 9, item, sizeof item, position, sizeof position, EMPTY_IN, new_item, sizeof new_item, openings,  \
-                           sizeof openings) == 0);                                                                                         \
+    REQUIRE(LOMVUZE_VERDICT(lomvuze_verify(0, 1, 2, 1, 1, 9, item, sizeof item, position, sizeof position, EMPTY_IN, new_item,             \
+                                           sizeof new_item, openings, sizeof openings)) == 0);                                             \
     REQUIRE(lomvuze_decide(0, 1, 2, EMPTY_IN, EMPTY_IN, EMPTY_IN, EMPTY_IN, new_item, sizeof new_item, new_w, sizeof new_w) == 0);         \
     REQUIRE(lomvuze_read_sheet(EMPTY_IN, entries, sizeof entries, other[0], sizeof entries, other[1], sizeof entries, items, sizeof items, \
                                wits, sizeof wits, sizes) == LOMVUZE_SHEET);                                                                \

@@ -2,8 +2,9 @@
 -- Assumes nothing.
 use mathlib.Core.Path.{_≡_, refl, sym, _∙_, ap, ap₂, subst}
 use mathlib.Core.Logic.{_≢_, ⊎-elim}
-use mathlib.Core.List.{List, [], _∷_, _++_, map, List·Memᴰ, List·Memᴰ·head, List·Memᴰ·tail, List·Memᴰ·not-nil, List·Memᴰ·cases-cons, Memᴰ·append-left, Memᴰ·append-right}
-use Prim.Native.Nat.{ℕ, zero, suc, _+_, _*_, _<_}
+use mathlib.Core.List.{List, [], _∷_, _++_, map, List·Memᴰ, List·Memᴰ·head, List·Memᴰ·tail, List·Memᴰ·not-nil, List·Memᴰ·cases-cons, Memᴰ·append-left, Memᴰ·append-right, append-nil, append-assoc}
+use Prim.Native.Nat.{ℕ, zero, suc, _+_, _*_, _≤_, _<_}
+use native.Mathlib.Decide.{ℕ-discrete}
 use native.Mathlib.Nat.{suc-mul, zero-mul, zero-add, suc-add}
 use native.Mathlib.Omega.{arith}
 use lib.ListN.{length, getD, length-append, List·getD-append}
@@ -52,6 +53,25 @@ pub mem-concatTo : {A : Type 0} {a : A} (n : ℕ) (f : ℕ → List A) (i : ℕ)
 mem-concatTo zero f i h m = absurd (omega arith)
 mem-concatTo (suc n) f zero h m = Memᴰ·append-left (concatTo n (λ j. f (suc j))) m
 mem-concatTo (suc n) f (suc i) h m = Memᴰ·append-right (f 0) (mem-concatTo n (λ j. f (suc j)) i (omega arith) m)
+
+pub concatTo-cong : {A : Type 0} (n : ℕ) (f g : ℕ → List A) → ((i : ℕ) → i < n → f i ≡ g i) → concatTo n f ≡ concatTo n g
+concatTo-cong zero f g h = refl
+concatTo-cong (suc n) f g h = ap₂ _++_ (h 0 (omega arith)) (concatTo-cong n (λ i. f (suc i)) (λ i. g (suc i)) (λ i l. h (suc i) (omega arith)))
+
+-- The last one, and lists that are empty from j on.
+pub concatTo-last : {A : Type 0} (n : ℕ) (f : ℕ → List A) → concatTo (suc n) f ≡ concatTo n f ++ f n
+concatTo-last zero f = append-nil (f 0)
+concatTo-last {A} (suc n) f =
+    ap (λ (t : List A). f 0 ++ t) (concatTo-last n (λ i. f (suc i))) ∙ sym (append-assoc (f 0) (concatTo n (λ i. f (suc i))) (f (suc n)))
+
+pub concatTo-stop : {A : Type 0} (n j : ℕ) (f : ℕ → List A) → j ≤ n → ((i : ℕ) → j ≤ i → i < n → f i ≡ []) → concatTo n f ≡ concatTo j f
+concatTo-stop zero j f l h = let e : 0 ≡ j = omega arith in ap (λ (k : ℕ). concatTo k f) e
+concatTo-stop {A} (suc n) j f l h = go (ℕ-discrete (suc n) j) (λ less. concatTo-stop n j f less (λ i g k. h i g (omega arith)))
+  where
+    go : Dec (suc n ≡ j) → (j ≤ n → concatTo n f ≡ concatTo j f) → concatTo (suc n) f ≡ concatTo j f
+    go (yes e) ih = ap (λ (k : ℕ). concatTo k f) e
+    go (no e) ih =
+        concatTo-last n f ∙ ap (λ (t : List A). concatTo n f ++ t) (h n (omega arith) (omega arith)) ∙ append-nil (concatTo n f) ∙ ih (omega arith)
 
 pub length-concatTo : {A : Type 0} (n width : ℕ) (f : ℕ → List A) → ((q : ℕ) → q < n → length (f q) ≡ width) → length (concatTo n f) ≡ n * width
 length-concatTo zero width f h = sym (zero-mul width)

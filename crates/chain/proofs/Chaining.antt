@@ -116,17 +116,17 @@ module _ (m n k l t challenge : ℕ) (points a b c items wits positions quotient
           promised s q i w o os ran is (answer-is s (first-refuses s _ open-answer h)) wrote-quotient wrote-item wrote-wit opened-all ordered-all
 
       -- The openings answer 0 too, and verifying and deciding r.
-      module _ (opens : s ≡ 0) (r : ℕ) (decided-both : r ≡ firstOf (verify m n k l t challenge items positions q i os) (decide m n k points a b c i w)) where
+      module _ (opens : s ≡ 0) (r : ℕ) (decided-both : r ≡ firstOf (verify m n k l t challenge items positions q i os .verdict) (decide m n k points a b c i w)) where
         ordered : os ≡ inOrder (depth k) t l (λ j. openedWith (folded .wit) j .openings)
         ordered =
             wrote-openings
             ∙ written-accepted _ openings opens
             ∙ ap (λ (v : List ℕ). inOrder (depth k) t l (λ j. openedWith v j .openings)) wrote-wit
 
-        verified : verify m n k l t challenge items positions q i os ≡ verifying fp m n k l t challenge points a b c items wits positions quotient item wit (witnessOpenings k t opened)
+        verified : verify m n k l t challenge items positions q i os .verdict ≡ verifying fp m n k l t challenge points a b c items wits positions quotient item wit (witnessOpenings k t opened)
         verified =
-            ap₂ (λ (x y : List ℕ). verify m n k l t challenge items positions x y os) wrote-quotient wrote-item
-            ∙ ap (verify m n k l t challenge items positions (folded .quotient) (folded .item)) ordered
+            ap₂ (λ (x y : List ℕ). verify m n k l t challenge items positions x y os .verdict) wrote-quotient wrote-item
+            ∙ ap (λ (x : List ℕ). verify m n k l t challenge items positions (folded .quotient) (folded .item) x .verdict) ordered
 
         decided : decide m n k points a b c i w ≡ deciding fp m n k l t challenge points a b c items wits positions quotient item wit (witnessOpenings k t opened)
         decided = ap₂ (decide m n k points a b c) wrote-item wrote-wit

@@ -68,7 +68,7 @@ fn verify_and_decide(
     wit: &[u8],
     openings: &[u8],
 ) -> u32
-    ensures { λ r. ⌜ r ≡ firstOf (verify m n k l t challenge (now (items .entry)) (now (positions .entry)) (now (quotient .entry)) (now (item .entry)) (now (openings .entry))) (decide m n k (now (points .entry)) (now (a .entry)) (now (b .entry)) (now (c .entry)) (now (item .entry)) (now (wit .entry))) ⌝ }
+    ensures { λ r. ⌜ r ≡ firstOf (verify m n k l t challenge (now (items .entry)) (now (positions .entry)) (now (quotient .entry)) (now (item .entry)) (now (openings .entry)) .verdict) (decide m n k (now (points .entry)) (now (a .entry)) (now (b .entry)) (now (c .entry)) (now (item .entry)) (now (wit .entry))) ⌝ }
 {
     let answer = verdicts::lomvuze_verify(
         m,
@@ -83,8 +83,9 @@ fn verify_and_decide(
         item,
         openings,
     );
-    if answer != 0 {
-        return answer;
+    let verdict = (answer % 64) as u32;
+    if verdict != 0 {
+        return verdict;
     }
     verdicts::lomvuze_decide(m, n, k, points, a, b, c, item, wit)
 }

@@ -10,6 +10,7 @@ use borrow.Author.Tests.{lt-ltb, le-ltb, not-true, not-false}
 use lib.Dec.{ltb}
 use Rattle.numbers.proofs.Tests.{_&_}
 use Rattle.theory.specs.Checks.{every}
+use Rattle.theory.proofs.CheckLaws.{every-fails}
 
 -- ---- a test of each number below n
 
@@ -22,16 +23,6 @@ every-none f = refl
 pub every-more : (f : ℕ → Bool) (i : ℕ) → every i f ≡ true → f i ≡ true → every (i + 1) f ≡ true
 unfolding every
 every-more f i e h = rw add-one (e & h)
-
--- Where a number fails.
-pub every-fails : (n : ℕ) (f : ℕ → Bool) (i : ℕ) → i < n → f i ≡ false → false ≡ every n f
-unfolding every
-every-fails zero f i l h = absurd (omega arith)
-every-fails (suc n) f i l h = go (ℕ-discrete i n) (λ less. every-fails n f i less h)
-  where
-    go : Dec (i ≡ n) → (i < n → false ≡ every n f) → false ≡ (every n f && f n)
-    go (yes q) ih = sym (ap (λ (b : Bool). every n f && b) (sym (ap f q) ∙ h) ∙ and-false (every n f))
-    go (no q) ih = ap (λ (b : Bool). b && f n) (ih (omega arith))
 
 -- After the last turn.
 pub every-all : (n : ℕ) (f : ℕ → Bool) (i : ℕ) → i ≤ n → n ≤ i → every i f ≡ true → true ≡ every n f
@@ -51,12 +42,6 @@ joined-more f i e h = rw add-one (ap₂ _&&_ e h)
 
 pub joined-all : (n : ℕ) (f : ℕ → Bool) (i : ℕ) {b : Bool} → i ≤ n → n ≤ i → b ≡ every i f → b ≡ every n f
 joined-all n f i l g e = let q : n ≡ i = omega arith in rw q e
-
--- Tests that agree below n.
-pub every-cong : (n : ℕ) (f g : ℕ → Bool) → ((i : ℕ) → i < n → f i ≡ g i) → every n f ≡ every n g
-unfolding every
-every-cong zero f g h = refl
-every-cong (suc n) f g h = ap₂ _&&_ (every-cong n f g (λ i l. h i (omega arith))) (h n (omega arith))
 
 -- The same where f tests that g stays below a bound.
 module _ (bound : ℕ) where

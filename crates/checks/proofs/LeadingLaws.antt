@@ -18,8 +18,7 @@ use Rattle.theory.specs.Checks.{every}
 use Rattle.theory.specs.Buffers.{numberAt}
 use Rattle.theory.specs.Sizes.{elementsBelow, leadingOne, itemsLeadingOne}
 use Rattle.theory.specs.Fp.{fp, elementAt, elements, itemSize, readItem, itemBelow, itemsBelow, sameElement}
-use Rattle.theory.proofs.CheckLaws.{every-true}
-use Rattle.checks.proofs.Laws.{every-cong}
+use Rattle.theory.proofs.CheckLaws.{every-true, every-cong}
 use Rattle.checks.proofs.ItemTests.{element-test}
 
 -- A number below p is 1 exactly if its element is.

@@ -15,10 +15,9 @@ use Rattle.theory.specs.Checks.{Check, answer, every}
 use Rattle.theory.specs.Buffers.{numberAt}
 use Rattle.theory.specs.Sizes.{pointsFit, elementsBelow, circuitInOrder}
 use Rattle.theory.specs.Fp.{fp, witnessRoot, circuit, itemFront, itemSize, readItem, readWitness, itemBelow, itemsBelow, matches, holds, listChecks, allMatch, allHold}
-use Rattle.theory.proofs.CheckLaws.{group-refused, group-passed}
+use Rattle.theory.proofs.CheckLaws.{group-refused, group-passed, every-cong}
 use Rattle.theory.proofs.Parts.{part-part}
 use Rattle.theory.proofs.Passed.{list-passes, list-below, passed-list}
-use Rattle.checks.proofs.Laws.{every-cong}
 use Rattle.checks.proofs.Members.{every-read}
 
 -- The answer r of checks 3, 12, 4 and 13 before others: a refusal is the answer of them all, and else the others decide.

@@ -14,12 +14,11 @@ use Rattle.theory.specs.Items.{Item}
 use Rattle.theory.specs.Combination.{itemAt}
 use Rattle.theory.specs.Sizes.{elementsBelow}
 use Rattle.theory.specs.Fp.{fp, itemPart, readItem, readItems, readWitness}
-use Rattle.theory.proofs.CheckLaws.{every-true}
+use Rattle.theory.proofs.CheckLaws.{every-true, every-cong}
 use Rattle.theory.proofs.Parts.{length-part, part-cut, part-within}
 use Rattle.theory.proofs.ElementBytes.{witness-below}
 use Rattle.theory.proofs.FpLaws.{fp-laws}
 use Rattle.theory.proofs.Reading.{itemAt-readItems}
-use Rattle.checks.proofs.Laws.{every-cong}
 
 -- Member i of n members of s bytes in the buffer xs starts at `at`.
 pub record Member (s n i at : ℕ) (xs : List ℕ) : Type 0 where

@@ -23,6 +23,10 @@ for-witness-counts P p2 p4 p8 p16 p32 p64 k =
     case : (n : ℕ) → P n → eqb k n ≡ true → P k
     case n h e = subst P (sym (eqb-true k n e)) h
 
+pub depth-few : (k : ℕ) → isWitnessCount k ≡ true → depth k < 9
+unfolding depth
+depth-few = for-witness-counts (λ k. depth k < 9) (lit< tt) (lit< tt) (lit< tt) (lit< tt) (lit< tt) (lit< tt)
+
 -- A tree of depth d has 2 ^ d leaves.
 pub depth-leaves : (k : ℕ) → isWitnessCount k ≡ true → 2 ^ depth k ≡ 4 * k
 unfolding depth

@@ -1,22 +1,30 @@
 // SHA-256, the leaf and the inner node of a hash tree.
 ghost use mathlib.Core.Path.{_≡_};
-ghost use mathlib.Core.List.{_∷_, _++_};
+ghost use mathlib.Core.List.{[], _∷_, _++_};
 ghost use lib.ListN.{length};
-ghost use Rattle.hash.specs.Sha256.{digest};
+ghost use Rattle.hash.specs.Sha256.{blockCount, digest};
 ghost use Rattle.harness.specs.Answers.{digestAnswer, leafAnswer};
 ghost use Rattle.theory.specs.Checks.{written};
 
-// A message of 2^61 bytes or more is refused: its length in bits does not fit eight bytes.
+// The digest, and the number of blocks. A message of 2^61 bytes or more is refused: its length in bits does not fit eight bytes.
 #[no_mangle]
-pub extern "C" fn lomvuze_test_digest(message: &[u8], out: &mut [u8; 32]) -> u32
+pub extern "C" fn lomvuze_test_digest(
+    message: &[u8],
+    out: &mut [u8; 32],
+    blocks: &mut [u64; 1],
+) -> u32
     ensures answer { λ r. ⌜ r ≡ digestAnswer (length (now (message .entry))) ⌝ }
     ensures out { λ r. ⌜ now (out .exit) ≡ written r (digest (now (message .entry))) (now (out .entry)) ⌝ }
+    ensures blocks { λ r. ⌜ now (blocks .exit) ≡ written r (blockCount (now (message .entry)) ∷ []) (now (blocks .entry)) ⌝ }
 {
     if !(message.len() < 0x2000000000000000) {
         return 1;
     }
-    let d = hash::digest(message);
+    let hashed = hash::digest(message);
+    let d = hashed.digest;
     *out = d;
+    let count = [hashed.blocks];
+    *blocks = count;
     0
 }
 
@@ -30,7 +38,8 @@ pub extern "C" fn lomvuze_test_leaf(position: &[u8; 4], value: &[u8], out: &mut 
         return 1;
     }
     let p = *position;
-    let d = hash::leaf(p, value);
+    let hashed = hash::leaf(p, value);
+    let d = hashed.digest;
     *out = d;
     0
 }
@@ -41,6 +50,7 @@ pub extern "C" fn lomvuze_test_node(left: &[u8; 32], right: &[u8; 32], out: &mut
 {
     let l = *left;
     let r = *right;
-    let d = hash::node(l, r);
+    let hashed = hash::node(l, r);
+    let d = hashed.digest;
     *out = d;
 }

@@ -95,7 +95,8 @@ pub extern "C" fn lomvuze_test_leads(
     if !opened_permitted(depth, opening.len()) {
         return 1;
     }
-    let d = tree::opening_root(opening, 0, depth, position);
+    let hashed = tree::opening_root(opening, 0, depth, position);
+    let d = hashed.digest;
     *out = d;
     0
 }

@@ -8,7 +8,7 @@ use native.Mathlib.Nat.{add-zero, add-suc}
 use native.Mathlib.Omega.{arith}
 use lib.ListN.{length, getD, drop, length-drop, List·getD-append}
 use lib.Seq.{getD-drop}
-use Rattle.hash.specs.Sha256.{H₀, padding, pad, words, compress, hash, bytes, digest}
+use Rattle.hash.specs.Sha256.{H₀, padding, pad, words, blockCount, compress, hash, bytes, digest}
 use Rattle.hash.proofs.Fill.{upTo-ext}
 use Rattle.hash.proofs.Pad.{length-pad}
 
@@ -62,7 +62,7 @@ hash-drop h p n (suc i) =
 -- the whole blocks of m leave h; those of its last blocks, which stand at the front of t, leave g
 pub all-blocks : (m h t z g r : List ℕ) (k : ℕ) → h ≡ hash H₀ m (length m / 64) → t ≡ drop (64 * (length m / 64)) (pad m) ++ z
     → k ≡ (length m % 64 + 8) / 64 + 1 → g ≡ hash h t k → r ≡ bytes g 8 → r ≡ digest m
-unfolding digest pad
+unfolding digest blockCount pad
 all-blocks m h t z g r k e-h e-t e-k e-g e-r =
     let q : ℕ = length m / 64 in
     let l = length-pad m in
@@ -74,3 +74,8 @@ all-blocks m h t z g r k e-h e-t e-k e-g e-r =
     ∙ hash-append (hash H₀ (pad m) q) (drop (64 * q) (pad m)) z k (omega arith)
     ∙ hash-drop H₀ (pad m) q k
     ∙ ap (hash H₀ (pad m)) count)
+
+-- they are as many as the message has
+pub all-counted : (m : List ℕ) {whole all : ℕ} → whole ≡ 0 + length m / 64 → all ≡ whole + ((length m % 64 + 8) / 64 + 1) → all ≡ blockCount m
+unfolding blockCount
+all-counted m e-w e-a = omega (arith, e-w, e-a, length-pad m)

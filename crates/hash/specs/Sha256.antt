@@ -51,7 +51,11 @@ padding l = 0x80 ∷ (replicate (zeros l) 0 ++ inBytes 8 (8 * l))
 unfoldable pub pad : List ℕ → List ℕ
 pad m = m ++ padding (length m)
 
--- ---- 5.2.1: parsing into blocks of sixteen words
+-- ---- 5.2.1: parsing into blocks of sixteen words, which are 64 bytes
+
+-- the number of blocks that a message is processed in: those of the padded message
+unfoldable pub blockCount : List ℕ → ℕ
+blockCount m = length (pad m) / 64
 
 -- the word in the four bytes from index i on, highest first
 abbrev pub word : List ℕ → ℕ → ℕ
@@ -119,4 +123,4 @@ bytes h (suc n) = bytes h n ++ inBytes 4 (getD h n 0)
 
 -- the message digest: the bytes of the hash value after all blocks of the padded message
 unfoldable pub digest : List ℕ → List ℕ
-digest m = bytes (hash H₀ (pad m) (length (pad m) / 64)) 8
+digest m = bytes (hash H₀ (pad m) (blockCount m)) 8

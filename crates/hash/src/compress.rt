@@ -1,6 +1,6 @@
 // The compression of one block: FIPS 180-4, section 6.2.2.
 ghost use mathlib.Core.Path.{_≡_};
-ghost use Prim.Native.Nat.{_*_, _≤_};
+ghost use Prim.Native.Nat.{_+_, _*_, _^_, _≤_, _<_};
 ghost use lib.ListN.{length};
 ghost use Rattle.hash.specs.Word.{_⊞_, σ₀, σ₁};
 ghost use Rattle.hash.specs.Sha256.{schedule, roundWith, rounds, sum, compress, hash};
@@ -162,18 +162,26 @@ pub fn compress(h: [u32; 8], m: [u32; 16]) -> [u32; 8]
     sum(rounds(schedule(m), h), h)
 }
 
-// The hash value after the first n blocks of s, where it was h before them.
-pub fn blocks(h: [u32; 8], s: &[u8], n: usize) -> [u32; 8]
-    requires { ⌜ 64 * n ≤ length (now s) ⌝ }
-    ensures { λ r. ⌜ r ≡ hash h (now (s .entry)) n ⌝ }
+// A hash value, and how many blocks were processed for it.
+pub struct State {
+    pub value: [u32; 8],
+    pub blocks: u64,
+}
+
+// The state after the first n blocks of s, where it was `before` before them.
+pub fn blocks(before: State, s: &[u8], n: usize) -> State
+    requires { ⌜ (64 * n ≤ length (now s)) × (before .blocks + n < 2 ^ 64) ⌝ }
+    ensures { λ r. ⌜ (r .value ≡ hash (before .value) (now (s .entry)) n) × (r .blocks ≡ before .blocks + n) ⌝ }
 {
-    let mut state = h;
+    let mut value = before.value;
+    let mut blocks = before.blocks;
     let mut i = 0;
     while i < n {
         let m = message::block(s, 64 * i);
-        let next = compress(state, m);
-        state = next;
+        let next = compress(value, m);
+        value = next;
+        blocks += 1;
         i += 1;
     }
-    state
+    State { value, blocks }
 }

@@ -3,11 +3,13 @@ ghost use mathlib.Core.Path.{_≡_};
 ghost use mathlib.Core.List.{_∷_, _++_};
 ghost use Prim.Native.Nat.{_^_, _≤_, _<_};
 ghost use lib.ListN.{length};
-ghost use Rattle.hash.specs.Sha256.{digest};
+ghost use Rattle.hash.specs.Sha256.{blockCount, digest};
 
 mod compress;
 mod message;
 mod word;
+
+use crate::compress::State;
 
 // The initial hash value: FIPS 180-4, section 5.3.3.
 const H0: [u32; 8] = [
@@ -21,24 +23,38 @@ const H0: [u32; 8] = [
     0x5be0cd19,
 ];
 
-// The digest of a message: its whole blocks, then the last blocks, which hold the padding.
-pub fn digest(msg: &[u8]) -> [u8; 32]
-    requires { ⌜ length (now msg) < 2 ^ 61 ⌝ }
-    ensures { λ r. ⌜ r ≡ digest (now (msg .entry)) ⌝ }
-{
-    let len = msg.len();
-    let h = compress::blocks(H0, msg, len / 64);
-    let start = 64 * (len / 64);
-    let mut last = [0u8; 128];
-    message::copy(&mut last, 0, &msg[start..]);
-    message::close(&mut last, len);
-    message::bytes(compress::blocks(h, &last, (len % 64 + 8) / 64 + 1))
+// The digest of a message, and how many blocks were processed for it.
+pub struct Hashed {
+    pub digest: [u8; 32],
+    pub blocks: u64,
 }
 
-// The digest of a leaf: the byte 0x00, the four bytes of a position, and those of a value, at most sixteen.
-pub fn leaf(position: [u8; 4], value: &[u8]) -> [u8; 32]
+// Hashes a message: its whole blocks, then the last blocks, which hold the padding.
+pub fn digest(msg: &[u8]) -> Hashed
+    requires { ⌜ length (now msg) < 2 ^ 61 ⌝ }
+    ensures { λ r. ⌜ (r .digest ≡ digest (now (msg .entry))) × (r .blocks ≡ blockCount (now (msg .entry))) ⌝ }
+{
+    let len = msg.len();
+    let value = H0;
+    let start = State { value, blocks: 0 };
+    let whole = compress::blocks(start, msg, len / 64);
+    let rest = 64 * (len / 64);
+    let mut last = [0u8; 128];
+    message::copy(&mut last, 0, &msg[rest..]);
+    message::close(&mut last, len);
+    let all = compress::blocks(whole, &last, (len % 64 + 8) / 64 + 1);
+    let value = all.value;
+    let digest = message::bytes(value);
+    Hashed {
+        digest,
+        blocks: all.blocks,
+    }
+}
+
+// Hashes a leaf: the byte 0x00, the four bytes of a position, and those of a value, at most sixteen.
+pub fn leaf(position: [u8; 4], value: &[u8]) -> Hashed
     requires { ⌜ length (now value) ≤ 16 ⌝ }
-    ensures { λ r. ⌜ r ≡ digest (0x00 ∷ (position ++ now (value .entry))) ⌝ }
+    ensures { λ r. ⌜ (r .digest ≡ digest (0x00 ∷ (position ++ now (value .entry)))) × (r .blocks ≡ blockCount (0x00 ∷ (position ++ now (value .entry)))) ⌝ }
 {
     let mut msg = [0u8; 21];
     msg[0] = 0x00;
@@ -47,9 +63,9 @@ pub fn leaf(position: [u8; 4], value: &[u8]) -> [u8; 32]
     digest(&msg[..5 + value.len()])
 }
 
-// The digest of an inner node: the byte 0x01 and the digests of its two children.
-pub fn node(left: [u8; 32], right: [u8; 32]) -> [u8; 32]
-    ensures { λ r. ⌜ r ≡ digest (0x01 ∷ (left ++ right)) ⌝ }
+// Hashes an inner node: the byte 0x01 and the digests of its two children.
+pub fn node(left: [u8; 32], right: [u8; 32]) -> Hashed
+    ensures { λ r. ⌜ (r .digest ≡ digest (0x01 ∷ (left ++ right))) × (r .blocks ≡ blockCount (0x01 ∷ (left ++ right))) ⌝ }
 {
     let mut msg = [0u8; 65];
     msg[0] = 0x01;

@@ -51,7 +51,7 @@ module _ (I : Instance) (m n k l : ℕ) (points a b c items quotient : List ℕ)
   -- ---- both calls answer 0
 
   abbrev verifying : ℕ
-  verifying = verify I m n k l (f .t) (f .challenge) items (f .positions) quotient (f .item) (f .openings)
+  verifying = verify I m n k l (f .t) (f .challenge) items (f .positions) quotient (f .item) (f .openings) .verdict
 
   abbrev deciding : ℕ
   deciding = decide I m n k points a b c (f .item) (f .witness)

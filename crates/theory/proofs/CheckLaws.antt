@@ -1,7 +1,7 @@
 -- The laws of checks: an answer is 0 exactly if every check passes; tests that hold over ranges.
-use mathlib.Core.Path.{_≡_, refl, _∙_, ap}
+use mathlib.Core.Path.{_≡_, refl, sym, _∙_, ap, ap₂}
 use mathlib.Core.Logic.{_≢_}
-use mathlib.Core.Bool.{Bool, true, false, false≢true}
+use mathlib.Core.Bool.{Bool, true, false, _&&_, and-false, false≢true}
 use mathlib.Core.List.{List, [], _∷_, _++_}
 use Prim.Native.Nat.{ℕ, zero, suc, _<_}
 use native.Mathlib.Decide.{ℕ-discrete}
@@ -25,6 +25,22 @@ unfolding every
 true-every zero f h = refl
 true-every (suc n) f h = true-every n f (λ i l. h i (omega arith)) & h n (omega arith)
 
+-- Where one fails.
+pub every-fails : (n : ℕ) (f : ℕ → Bool) (i : ℕ) → i < n → f i ≡ false → false ≡ every n f
+unfolding every
+every-fails zero f i l h = absurd (omega arith)
+every-fails (suc n) f i l h = go (ℕ-discrete i n) (λ less. every-fails n f i less h)
+  where
+    go : Dec (i ≡ n) → (i < n → false ≡ every n f) → false ≡ (every n f && f n)
+    go (yes q) ih = sym (ap (λ (b : Bool). every n f && b) (sym (ap f q) ∙ h) ∙ and-false (every n f))
+    go (no q) ih = ap (λ (b : Bool). b && f n) (ih (omega arith))
+
+-- Tests that agree.
+pub every-cong : (n : ℕ) (f g : ℕ → Bool) → ((i : ℕ) → i < n → f i ≡ g i) → every n f ≡ every n g
+unfolding every
+every-cong zero f g h = refl
+every-cong (suc n) f g h = ap₂ _&&_ (every-cong n f g (λ i l. h i (omega arith))) (h n (omega arith))
+
 pub every-one : (f : ℕ → Bool) → every 1 f ≡ f 0
 unfolding every
 every-one f = refl
@@ -46,6 +62,15 @@ answer-passed (c ∷ cs) n e = go (c .passes) refl (answer-passed cs (n .1)) e
 pub passed-answer : (cs : List Check) → All Passed cs → answer cs ≡ 0
 passed-answer [] h = refl
 passed-answer (c ∷ cs) h = rw (h .0) (passed-answer cs (h .1))
+
+-- An answer is below what the numbers of all checks are below.
+pub answer-below : (b : ℕ) (cs : List Check) → 0 < b → All (λ c. c .number < b) cs → answer cs < b
+answer-below b [] some h = some
+answer-below b (c ∷ cs) some h = go (c .passes) (answer-below b cs some (h .1))
+  where
+    go : (p : Bool) → answer cs < b → answerIf p (c .number) (answer cs) < b
+    go true ih = ih
+    go false ih = h .0
 
 -- A number is not the answer where every check that has it passes.
 pub never-answers : (n : ℕ) (cs : List Check) → 0 < n → All (λ c. c .number ≡ n → Passed c) cs → answer cs ≢ n

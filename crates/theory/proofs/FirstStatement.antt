@@ -105,7 +105,7 @@ module _ {I : Instance} (laws : InstanceLaws I) {m n k l t : ℕ} {points a b c 
   check9 : valuesCombine I batch shown ≡ true
   check9 = true-every _ _ (λ q h. same-element I (passes .combines q h))
 
-  verified : verify I m n k l t challenge items positions (E .bytesOf coefficients) (itemBytes I new) ordered ≡ 0
+  verified : verify I m n k l t challenge items positions (E .bytesOf coefficients) (itemBytes I new) ordered .verdict ≡ 0
   unfolding verify
   verified = passed-answer (verifyChecks I m n k l t challenge items positions (E .bytesOf coefficients) (itemBytes I new) ordered) (
     challenge-sized I l challenge permitted & fits .sizes-fit & fits .count-fits & position-count-fits allowed & fits .items-fit & positions-fit allowed & quotient-fits & item-fits
@@ -155,7 +155,7 @@ module _ {I : Instance} (laws : InstanceLaws I) {m n k l t : ℕ} {points a b c 
 
   verifying-zero : verifying I m n k l t challenge points a b c items wits positions quotient item wit openings ≡ 0
   verifying-zero =
-      ap₂ (λ (q i : List ℕ). verify I m n k l t challenge items positions q i ordered) (wrote-quotient honest outputs challenge permitted) (wrote-item honest outputs challenge permitted)
+      ap₂ (λ (q i : List ℕ). verify I m n k l t challenge items positions q i ordered .verdict) (wrote-quotient honest outputs challenge permitted) (wrote-item honest outputs challenge permitted)
       ∙ verified
 
   deciding-zero : deciding I m n k l t challenge points a b c items wits positions quotient item wit openings ≡ 0

@@ -8,13 +8,14 @@ use borrow.Author.Tests.{lt-ltb}
 use lib.Dec.{lit<}
 use lib.ListN.{length, getD, length-map, List·getD-append}
 use Rattle.algebra.proofs.ListLaws.{getD-map}
-use Rattle.numbers.specs.Numbers.{numbers, bytes}
+use Rattle.numbers.specs.Numbers.{numbers, bytes4, bytes}
 use Rattle.numbers.proofs.Bounds.{Below, all-below}
 use Rattle.numbers.proofs.Bytes.{length-bytes, number4-bytes4, bytes4-injective, numbers-bytes}
 use Rattle.field.specs.BabyBear.{p, F, val, ofℕ, 𝟘}
 use Rattle.field.proofs.Laws.{val-lt, val-inj, ofℕ-val, ofℕ-inj, below-p, ofNat-differ}
 use Rattle.hash.proofs.DigestLaws.{digest-length}
 use Rattle.tree.proofs.Entries.{entry-value}
+use Rattle.tree.proofs.HashedBlocks.{leaf-count, node-count}
 use Rattle.code.proofs.Points.{points-length}
 use Rattle.code.proofs.Different.{points-distinct}
 use Rattle.theory.specs.Buffers.{numberAt}
@@ -61,6 +62,8 @@ fp-laws = record {
   hash-laws = record {
     digest-length = digest-length;
     entry-value = λ i v w e. val-inj v w (bytes4-injective (val v) (val w) (four-bytes v) (four-bytes w) (entry-value i i _ _ e));
+    leaf-blocks = λ i v. leaf-count i (bytes4 (val v)) (omega arith);
+    node-blocks = node-count;
   };
   built-in-count = points-length;
   built-in-different = points-distinct;

@@ -82,9 +82,10 @@ module _ (I : Instance) where
     (λ e. absurd (omega (arith, e)), (λ e. absurd (omega (arith, e)), (λ e. absurd (omega (arith, e)), (λ e. passed, (λ e. absurd (omega (arith, e)), (λ e. absurd (omega (arith, e)), tt)))))),
   )
 
-  -- An item that verifying accepted as the new one of a list, of whatever bytes: deciding it never answers 13, with any points, circuit and witness.
+  -- An item that verifying accepted as the new one of a list, of whatever bytes: deciding it with the same m and n never answers 13, with
+  -- any points, circuit and witness.
   pub verified-for : InstanceLaws I → (m n k l t : ℕ) (challenge : E .Challenge) (items positions q item openings : List ℕ)
-      → verify I m n k l t challenge items positions q item openings ≡ 0
+      → verify I m n k l t challenge items positions q item openings .verdict ≡ 0
       → (j : ℕ) (points a b c wit : List ℕ) → decide I m n j points a b c item wit ≢ 13
   unfolding verify
   verified-for laws m n k l t challenge items positions q item openings accepted j points a b c wit =
@@ -119,7 +120,7 @@ module _ (I : Instance) where
           (each-true (E .sized challenge) (listFits I m n k l points a b c items wits ∷ foldOutputsFit I m n k l q item wit ∷ []) (passed .fits) .1 .0)
 
 -- About the exported calls.
-pub verified-never-13 : (m n k l t challenge : ℕ) (items positions q item openings : List ℕ) → verify fp m n k l t challenge items positions q item openings ≡ 0
+pub verified-never-13 : (m n k l t challenge : ℕ) (items positions q item openings : List ℕ) → verify fp m n k l t challenge items positions q item openings .verdict ≡ 0
     → (j : ℕ) (points a b c wit : List ℕ) → decide fp m n j points a b c item wit ≢ 13
 verified-never-13 = verified-for fp fp-laws
 

@@ -30,5 +30,8 @@ pub mod Binding
 pub mod Extraction
 pub mod SelectionLaws
 pub mod Accepted
+pub mod Reached
+pub mod Counted
+pub mod BlockCount
 pub mod SecondStatement
 pub mod Cases

@@ -5,6 +5,7 @@ use Prim.Native.Nat.{ℕ, suc, _*_, _^_, _<_}
 use lib.ListN.{length, getD}
 use Rattle.algebra.specs.Ring.{CommRing, Field}
 use Rattle.algebra.specs.Lists.{Distinct}
+use Rattle.tree.specs.Merkle.{leafString, nodeString}
 use Rattle.code.specs.Codeword.{codeword}
 use Rattle.theory.specs.R1cs.{Circuit}
 use Rattle.theory.specs.Items.{Hash, Code, Item, Holds, Matches}
@@ -15,6 +16,9 @@ use Rattle.theory.specs.Folds.{Fold, positionCount, positionAt, itemOf, 
 pub record HashLaws (K : Type 0) (H : Hash K) : Type 0 where
   pub digest-length : (s : List ℕ) → length (H .digest s) ≡ 32
   pub entry-value : (i : ℕ) (v w : K) → H .entry i v ≡ H .entry i w → v ≡ w
+  -- A leaf is hashed in one block, an inner node in two.
+  pub leaf-blocks : (i : ℕ) (v : K) → H .blocks (leafString (H .entry i v)) ≡ 1
+  pub node-blocks : (a b : List ℕ) → length a ≡ 32 → length b ≡ 32 → H .blocks (nodeString a b) ≡ 2
 
 -- What they ask of a code: 4k pairwise different points, and a tree of as many leaves.
 pub record CodeLaws (K : Type 0) (C : Code K) : Type 0 where

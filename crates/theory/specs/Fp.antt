@@ -6,7 +6,7 @@ use Prim.Native.Nat.{ℕ, _*_}
 use lib.Dec.{leb, ltb}
 use Rattle.numbers.specs.Numbers.{bytes4, bytes}
 use Rattle.field.specs.BabyBear.{babyBear, p, F, val, ofℕ}
-use Rattle.hash.specs.Sha256.{digest}
+use Rattle.hash.specs.Sha256.{blockCount, digest}
 use Rattle.tree.specs.Entry.{entry}
 use Rattle.code.specs.Points.{points}
 use Rattle.theory.specs.R1cs.{Entry, Circuit}
@@ -15,7 +15,7 @@ use Rattle.theory.specs.Folds.{Opening, Shown}
 use Rattle.theory.specs.Checks.{Check}
 use Rattle.theory.specs.Instance.{Format, Instance}
 use Rattle.theory.specs.Buffers.{numberAt}
-use Rattle.theory.specs.Results.{Encoded, Cast, Quotient, Folded, Opened, Interleaved}
+use Rattle.theory.specs.Results.{Encoded, Cast, Quotient, Folded, Opened, Interleaved, Verified}
 
 -- ---- the instance
 
@@ -38,7 +38,7 @@ fpFormat = record {
 }
 
 abbrev pub sha : Hash F
-sha = record { digest = digest; entry = λ i v. entry i (bytes4 (val v)) }
+sha = record { digest = digest; blocks = blockCount; entry = λ i v. entry i (bytes4 (val v)) }
 
 abbrev pub fp : Instance
 fp = record { field = babyBear; format = fpFormat; hash = sha; builtInPoints = points }
@@ -235,7 +235,7 @@ verifyFits = Rattle.theory.specs.Verify.verifyFits fp
 abbrev pub verifyChecks : ℕ → ℕ → ℕ → ℕ → ℕ → ℕ → List ℕ → List ℕ → List ℕ → List ℕ → List ℕ → List Check
 verifyChecks = Rattle.theory.specs.Verify.verifyChecks fp
 
-abbrev pub verify : ℕ → ℕ → ℕ → ℕ → ℕ → ℕ → List ℕ → List ℕ → List ℕ → List ℕ → List ℕ → ℕ
+abbrev pub verify : ℕ → ℕ → ℕ → ℕ → ℕ → ℕ → List ℕ → List ℕ → List ℕ → List ℕ → List ℕ → Verified
 verify = Rattle.theory.specs.Verify.verify fp
 
 abbrev pub decideFits : ℕ → ℕ → ℕ → List ℕ → List ℕ → List ℕ → List ℕ → List ℕ → List ℕ → Bool

@@ -10,9 +10,10 @@ use Rattle.code.specs.Codeword.{codeword}
 use Rattle.tree.specs.Merkle.{root}
 use Rattle.theory.specs.R1cs.{Circuit, value}
 
--- A digest of byte strings, and the data of the leaf at a position with a value.
+-- A digest of byte strings, how many blocks a string is hashed in, and the data of the leaf at a position with a value.
 pub record Hash (K : Type 0) : Type 0 where
   pub digest : List ℕ → List ℕ
+  pub blocks : List ℕ → ℕ
   pub entry : ℕ → K → List ℕ
 
 -- A code: the number k of witness numbers, the 4k points, and the depth of the tree over 4k leaves.

@@ -9,6 +9,7 @@ pub mod Buffers
 pub mod Sizes
 pub mod Calls
 pub mod Verify
+pub mod Blocks
 pub mod Selection
 pub mod Statements
 pub mod Fp

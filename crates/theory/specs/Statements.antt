@@ -83,9 +83,10 @@ module _ (I : Instance) where
     abbrev pub opening : ℕ → Opened
     opening i = «open» I k t points (getD witnesses i []) positions (openings i)
 
-    -- Verifying gets the items, challenge and positions, the quotient and new item that folding wrote, and all the openings in order.
+    -- Verifying gets the items, challenge and positions, the quotient and new item that folding wrote, and all the openings in order. Its
+    -- answer is its verdict.
     abbrev pub verifying : ℕ
-    verifying = verify I m n k l t challenge items positions (folding .quotient) (folding .item) (inOrder I (depth k) t l (λ i. opening i .openings))
+    verifying = verify I m n k l t challenge items positions (folding .quotient) (folding .item) (inOrder I (depth k) t l (λ i. opening i .openings)) .verdict
 
     -- Deciding gets the circuit, the new item and the new witness.
     abbrev pub deciding : ℕ
@@ -120,10 +121,10 @@ module _ (I : Instance) where
   -- All folds of a list are verified and decided with the same sizes, verified with the same items and quotient, and decided with
   -- the same points and circuit.
   module _ (m n k l : ℕ) (points a b c items quotient : List ℕ) where
-    -- A fold is accepted when verifying answers zero to it and deciding answers zero to its new item with its witness.
+    -- A fold is accepted when verifying's verdict on it is zero and deciding answers zero to its new item with its witness.
     abbrev pub isAccepted : FoldBytes → Bool
     isAccepted f =
-        eqb (verify I m n k l (f .t) (f .challenge) items (f .positions) quotient (f .item) (f .openings)) 0
+        eqb (verify I m n k l (f .t) (f .challenge) items (f .positions) quotient (f .item) (f .openings) .verdict) 0
         && eqb (decide I m n k points a b c (f .item) (f .witness)) 0
 
     -- What the bytes of a fold show, and its witness.

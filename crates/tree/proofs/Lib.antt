@@ -10,4 +10,5 @@ pub mod Levels
 pub mod Heaps
 pub mod Written
 pub mod ReadBack
+pub mod HashedBlocks
 pub mod Openings

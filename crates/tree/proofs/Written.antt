@@ -17,7 +17,7 @@ pub copied : (n : ℕ) (l : List ℕ) → n ≡ 32 → length l ≡ n → take n
 copied n l e h = rw e (append-nil (take 32 l) ∙ take-all 32 l (omega arith))
 
 -- the first of some digests
-digests-step : (s : List ℕ) (at n : ℕ) → 0 < n → digests s at n ≡ part s at 32 ∷ digests s (at + 32) (n - 1)
+pub digests-step : (s : List ℕ) (at n : ℕ) → 0 < n → digests s at n ≡ part s at 32 ∷ digests s (at + 32) (n - 1)
 unfolding digests
 digests-step s at zero h = absurd (omega arith)
 digests-step s at (suc k) h = let down : suc k - 1 ≡ k = omega arith in rw down

@@ -3,7 +3,7 @@ use mathlib.Core.List.{List, [], _∷_, _++_, map}
 use Prim.Native.Nat.{ℕ, zero, suc, _+_, _*_}
 use lib.ListN.{getD, take, drop}
 use Rattle.numbers.specs.Numbers.{numbers, bytes4}
-use Rattle.tree.specs.Merkle.{path, openingRoot}
+use Rattle.tree.specs.Merkle.{path, openingRoot, openingStrings}
 use Rattle.tree.specs.Entry.{entry, entries}
 
 -- the bytes of an opening with `depth` siblings
@@ -28,9 +28,12 @@ openedValue s at = getD (numbers (part s at 4)) 0 0
 abbrev pub openedPath : List ℕ → ℕ → ℕ → List (List ℕ)
 openedPath s at depth = digests s (at + 4) depth
 
--- where the opening leads for position i
+-- where the opening leads for position i, and the strings hashed for it
 abbrev pub openedRoot : (List ℕ → List ℕ) → List ℕ → ℕ → ℕ → ℕ → List ℕ
 openedRoot digest s at depth i = openingRoot digest (entry i (bytes4 (openedValue s at))) i (openedPath s at depth)
+
+abbrev pub openedStrings : (List ℕ → List ℕ) → List ℕ → ℕ → ℕ → ℕ → List (List ℕ)
+openedStrings digest s at depth i = openingStrings digest (entry i (bytes4 (openedValue s at))) i (openedPath s at depth)
 
 -- ---- the bytes of openings
 

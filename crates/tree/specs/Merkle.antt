@@ -21,6 +21,11 @@ abbrev pub joined : ℕ → List ℕ → List ℕ → List ℕ
 joined zero own s = nodeString own s
 joined (suc b) own s = nodeString s own
 
+-- how many blocks strings are hashed in, one after the other, where `blocks` says it of one
+unfoldable pub blocksOf : (List ℕ → ℕ) → List (List ℕ) → ℕ
+blocksOf blocks [] = 0
+blocksOf blocks (s ∷ ss) = blocks s + blocksOf blocks ss
+
 -- ---- levels and places
 
 -- the entries under place p of level j: D[p * 2 ^ j : (p + 1) * 2 ^ j]

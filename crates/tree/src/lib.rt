@@ -5,17 +5,18 @@ ghost use mathlib.Core.List.{_++_};
 ghost use Prim.Native.Nat.{_+_, _*_, _%_, _^_, _≤_, _<_};
 ghost use lib.ListN.{length, take, drop};
 ghost use lib.Seq.{sets};
-ghost use Rattle.hash.specs.Sha256.{digest};
+ghost use Rattle.hash.specs.Sha256.{blockCount, digest};
 ghost use Rattle.numbers.specs.Numbers.{numbers, bytes4, allBelow};
-ghost use Rattle.tree.specs.Merkle.{leafString, joined, root as rootOf, subtree as subtreeOf, sibling as siblingOf};
+ghost use Rattle.tree.specs.Merkle.{leafString, nodeString, joined, blocksOf, root as rootOf, subtree as subtreeOf, sibling as siblingOf};
 ghost use Rattle.tree.specs.Entry.{entry, entries};
 ghost use Rattle.tree.specs.Heap.{IsHeap, heapPath};
-ghost use Rattle.tree.specs.Layout.{part, openingSize, openedValue, openedRoot, flat, ownOpening, ownOpenings};
+ghost use Rattle.tree.specs.Layout.{part, openingSize, openedValue, openedRoot, openedStrings, flat, ownOpening, ownOpenings};
+use hash::Hashed;
 
-// The digest of the leaf for a value's bytes at a position.
-fn leaf(position: usize, value: &[u8]) -> [u8; 32]
+// Hashes the leaf for a value's bytes at a position.
+fn leaf(position: usize, value: &[u8]) -> Hashed
     requires { ⌜ length (now value) ≤ 16 ⌝ }
-    ensures { λ r. ⌜ r ≡ digest (leafString (entry position (now (value .entry)))) ⌝ }
+    ensures { λ r. ⌜ (r .digest ≡ digest (leafString (entry position (now (value .entry))))) × (r .blocks ≡ blockCount (leafString (entry position (now (value .entry))))) ⌝ }
 {
     hash::leaf(numbers::bytes_of(position), value)
 }
@@ -24,7 +25,16 @@ fn leaf(position: usize, value: &[u8]) -> [u8; 32]
 fn number_leaf(position: usize, number: u32) -> [u8; 32]
     ensures { λ r. ⌜ r ≡ digest (leafString (entry position (bytes4 number))) ⌝ }
 {
-    leaf(position, &numbers::bytes_of(number as usize))
+    let hashed = leaf(position, &numbers::bytes_of(number as usize));
+    hashed.digest
+}
+
+// The digest of an inner node, of those of its two children.
+fn node(left: [u8; 32], right: [u8; 32]) -> [u8; 32]
+    ensures { λ r. ⌜ r ≡ digest (nodeString left right) ⌝ }
+{
+    let hashed = hash::node(left, right);
+    hashed.digest
 }
 
 // The digest at a level and a place of the tree over the values.
@@ -37,7 +47,7 @@ fn subtree(values: &[u32], level: usize, place: usize) -> [u8; 32]
     }
     let l = subtree(values, level - 1, 2 * place);
     let r = subtree(values, level - 1, 2 * place + 1);
-    hash::node(l, r)
+    node(l, r)
 }
 
 // The root of the tree over 2 ^ depth values.
@@ -64,7 +74,7 @@ fn nodes_of(values: &[u32], depth: usize) -> [[u8; 32]; 512]
     }
     let mut n = count - 1;
     while 0 < n {
-        let d = hash::node(nodes[2 * n], nodes[2 * n + 1]);
+        let d = node(nodes[2 * n], nodes[2 * n + 1]);
         nodes[n] = d;
         n -= 1;
     }
@@ -89,9 +99,9 @@ pub fn digest_at(s: &[u8], at: usize) -> [u8; 32]
     d
 }
 
-// The parent's digest, of the own digest at a place and its sibling's.
-fn parent(place: usize, own: [u8; 32], sibling: [u8; 32]) -> [u8; 32]
-    ensures { λ r. ⌜ r ≡ digest (joined (place % 2) own sibling) ⌝ }
+// Hashes the parent, of the own digest at a place and its sibling's.
+fn parent(place: usize, own: [u8; 32], sibling: [u8; 32]) -> Hashed
+    ensures { λ r. ⌜ (r .digest ≡ digest (joined (place % 2) own sibling)) × (r .blocks ≡ blockCount (joined (place % 2) own sibling)) ⌝ }
 {
     if place % 2 == 0 {
         return hash::node(own, sibling);
@@ -99,23 +109,29 @@ fn parent(place: usize, own: [u8; 32], sibling: [u8; 32]) -> [u8; 32]
     hash::node(sibling, own)
 }
 
-// Where the opening at a place of the buffer leads for a position.
-pub fn opening_root(s: &[u8], at: usize, depth: usize, position: usize) -> [u8; 32]
+// Where the opening at a place of the buffer leads for a position, and the blocks of the leaf and of each inner node up to there.
+pub fn opening_root(s: &[u8], at: usize, depth: usize, position: usize) -> Hashed
     requires { ⌜ at + openingSize depth ≤ length (now s) ⌝ }
-    ensures { λ r. ⌜ r ≡ openedRoot digest (now (s .entry)) at depth position ⌝ }
+    ensures { λ r. ⌜ (r .digest ≡ openedRoot digest (now (s .entry)) at depth position) × (r .blocks ≡ blocksOf blockCount (openedStrings digest (now (s .entry)) at depth position)) ⌝ }
 {
-    let mut own = leaf(position, &s[at..at + 4]);
+    let lowest = leaf(position, &s[at..at + 4]);
+    let mut own = lowest.digest;
+    let mut blocks = lowest.blocks;
     let mut place = position;
     let mut next = at + 4;
     let mut left = depth;
     while 0 < left {
         let above = parent(place, own, digest_at(s, next));
-        own = above;
+        own = above.digest;
+        blocks += above.blocks;
         place = place / 2;
         next += 32;
         left -= 1;
     }
-    own
+    Hashed {
+        digest: own,
+        blocks,
+    }
 }
 
 // Writes a value at a place of the buffer.

@@ -1,6 +1,8 @@
 // The eight calls and the sheet reader for C. Each tests its own input and answers 0, or the number of the first check that fails; a refusal writes nothing.
+// Verifying answers with a count of blocks too.
 ghost use mathlib.Core.Path.{_≡_};
 ghost use Rattle.theory.specs.Checks.{written};
+ghost use Rattle.theory.specs.Results.{packed};
 ghost use Rattle.theory.specs.Fp.{encode, cast, quotient, fold, «open», interleave, verify, decide};
 ghost use Rattle.sheet.specs.Reading.{readSheet, sizesOf};
 
@@ -134,7 +136,7 @@ pub extern "C" fn lomvuze_interleave(
     encoder::interleave::interleave(k, l, t, opened, openings)
 }
 
-// Verifies a fold. Checks 2, 3, 13 and 5 to 9.
+// Verifies a fold, and returns 64 times the number of SHA-256 blocks that were processed, plus the verdict. Checks 2, 3, 13 and 5 to 9.
 #[no_mangle]
 pub extern "C" fn lomvuze_verify(
     m: u32,
@@ -148,10 +150,10 @@ pub extern "C" fn lomvuze_verify(
     quotient: &[u8],
     item: &[u8],
     openings: &[u8],
-) -> u32
-    ensures { λ r. ⌜ r ≡ verify m n k l t challenge (now (items .entry)) (now (positions .entry)) (now (quotient .entry)) (now (item .entry)) (now (openings .entry)) ⌝ }
+) -> u64
+    ensures { λ r. ⌜ r ≡ packed (verify m n k l t challenge (now (items .entry)) (now (positions .entry)) (now (quotient .entry)) (now (item .entry)) (now (openings .entry))) ⌝ }
 {
-    verifier::verify::verify(
+    let verified = verifier::verify::verify(
         m,
         n,
         k,
@@ -163,7 +165,8 @@ pub extern "C" fn lomvuze_verify(
         quotient,
         item,
         openings,
-    )
+    );
+    64 * verified.blocks + verified.verdict as u64
 }
 
 // Decides an item with its witness. Checks 2, 3, 12, 4, 13, 10 and 11.

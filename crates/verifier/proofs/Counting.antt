@@ -13,7 +13,7 @@ use Rattle.numbers.proofs.Tests.{and-right}
 use Rattle.field.specs.BabyBear.{p}
 use Rattle.tree.specs.Layout.{openingSize, openedValue}
 use Rattle.code.specs.Points.{isWitnessCount, depth}
-use Rattle.code.proofs.Sizes.{for-witness-counts, count-few}
+use Rattle.code.proofs.Sizes.{count-few, depth-few as few-levels}
 use Rattle.theory.specs.Checks.{every}
 use Rattle.theory.specs.Combination.{quotientSize}
 use Rattle.theory.specs.Sizes.{sizes, itemCountFits, positionCountFits, hasLength}
@@ -24,10 +24,6 @@ use Rattle.checks.proofs.Calls.{passed, failed}
 use Rattle.verifier.specs.Verifying.{Counts, Lengths}
 
 -- ---- bounds
-
-depth-most : (k : ℕ) → isWitnessCount k ≡ true → depth k < 9
-unfolding depth
-depth-most = for-witness-counts (λ k. depth k < 9) (lit< tt) (lit< tt) (lit< tt) (lit< tt) (lit< tt) (lit< tt)
 
 product-most : (a b x y : ℕ) → a ≤ x → b ≤ y → a * b ≤ x * y
 product-most a b x y h g = mul-le-mul h g
@@ -40,7 +36,7 @@ module _ {m n k l t : ℕ} (counts : Counts m n k l t) where
   t-few = omega (arith, counts .t-most, k-most)
 
   pub depth-few : depth k < 9
-  depth-few = depth-most k (counts .k-count)
+  depth-few = few-levels k (counts .k-count)
 
   pub quotient-few : (l - 1) * (m + 1) ≤ 49
   quotient-few = product-most (l - 1) (m + 1) 7 7 (omega (arith, counts .l-most)) (omega (arith, counts .m-most))

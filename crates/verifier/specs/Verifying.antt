@@ -10,9 +10,10 @@ use Rattle.algebra.specs.Lists.{build}
 use Rattle.numbers.specs.Equality.{sameBytes}
 use Rattle.field.specs.BabyBear.{val}
 use Rattle.hash.specs.Sha256.{digest}
-use Rattle.tree.specs.Layout.{part, openingSize, openedRoot}
+use Rattle.tree.specs.Layout.{part, openingSize, openedRoot, openedStrings}
 use Rattle.code.specs.Points.{isWitnessCount, depth}
 use Rattle.theory.specs.Combination.{quotientSize}
+use Rattle.theory.specs.Checks.{reached}
 use Rattle.theory.specs.Buffers.{numberAt}
 use Rattle.theory.specs.Fp.{itemSize}
 use Rattle.fold.specs.Weights.{weighted}
@@ -43,6 +44,14 @@ rootAt size front l items item i = getD (build l (λ j. part items (j * size + f
 abbrev pub leads : ℕ → ℕ → ℕ → ℕ → ℕ → List ℕ → List ℕ → List ℕ → List ℕ → ℕ → ℕ → Bool
 leads size front opening l depth items positions item openings q i =
     sameBytes (openedRoot digest openings ((q * suc l + i) * opening) depth (numberAt positions q)) (rootAt size front l items item i)
+
+-- The strings hashed for it, and those of the openings of t positions that are reached.
+abbrev pub stringsAt : ℕ → ℕ → ℕ → List ℕ → List ℕ → ℕ → ℕ → List (List ℕ)
+stringsAt opening l depth positions openings q i = openedStrings digest openings ((q * suc l + i) * opening) depth (numberAt positions q)
+
+abbrev pub stringsReached : ℕ → ℕ → ℕ → ℕ → ℕ → ℕ → List ℕ → List ℕ → List ℕ → List ℕ → List (List ℕ)
+stringsReached size front opening l t depth items positions item openings =
+    reached t (suc l) (leads size front opening l depth items positions item openings) (stringsAt opening l depth positions openings)
 
 -- Check 9 for the position with index q: its openings start at number q × (l + 1) × stride.
 abbrev pub valueCombines : List ℕ → ℕ → List ℕ → ℕ → Bool

@@ -4,10 +4,11 @@ ghost use mathlib.Core.Path.{_≡_};
 ghost use Prim.Native.Nat.{suc, _+_, _*_, _≤_};
 ghost use lib.ListN.{length};
 ghost use Rattle.numbers.specs.Equality.{sameBytes};
-ghost use Rattle.hash.specs.Sha256.{digest};
-ghost use Rattle.tree.specs.Layout.{openingSize, openedRoot};
+ghost use Rattle.hash.specs.Sha256.{blockCount, digest};
+ghost use Rattle.tree.specs.Merkle.{blocksOf};
+ghost use Rattle.tree.specs.Layout.{openingSize, openedRoot, openedStrings};
 ghost use Rattle.theory.specs.Checks.{every};
-ghost use Rattle.verifier.specs.Verifying.{rootAt, leads, valueCombines};
+ghost use Rattle.verifier.specs.Verifying.{rootAt, leads, stringsReached, valueCombines};
 
 // The root of item i; the item after the last is the new one.
 fn root_at(size: usize, front: usize, l: usize, items: &[u8], item: &[u8], i: usize) -> [u8; 32]
@@ -20,7 +21,13 @@ fn root_at(size: usize, front: usize, l: usize, items: &[u8], item: &[u8], i: us
     tree::digest_at(item, front)
 }
 
-// Whether the opening of item i at a place of the buffer leads to the item's root.
+// Whether all that was tested leads to its root, and how many blocks were hashed for it.
+pub struct Tested {
+    pub lead: bool,
+    pub blocks: u64,
+}
+
+// Tests whether the opening of item i at a place of the buffer leads to the item's root.
 fn opening_leads(
     size: usize,
     front: usize,
@@ -32,16 +39,20 @@ fn opening_leads(
     at: usize,
     position: usize,
     i: usize,
-) -> bool
+) -> Tested
     requires { ⌜ (front + 32 ≤ size) × (length (now items) ≡ l * size) × (length (now item) ≡ size) × (i ≤ l) × (at + openingSize depth ≤ length (now openings)) ⌝ }
-    ensures { λ r. ⌜ r ≡ sameBytes (openedRoot digest (now (openings .entry)) at depth position) (rootAt size front l (now (items .entry)) (now (item .entry)) i) ⌝ }
+    ensures { λ r. ⌜ (r .lead ≡ sameBytes (openedRoot digest (now (openings .entry)) at depth position) (rootAt size front l (now (items .entry)) (now (item .entry)) i)) × (r .blocks ≡ blocksOf blockCount (openedStrings digest (now (openings .entry)) at depth position)) ⌝ }
 {
-    let reached = tree::opening_root(openings, at, depth, position);
+    let hashed = tree::opening_root(openings, at, depth, position);
+    let reached = hashed.digest;
     let root = root_at(size, front, l, items, item, i);
-    check::same(&reached, &root)
+    Tested {
+        lead: check::same(&reached, &root),
+        blocks: hashed.blocks,
+    }
 }
 
-// Check 8: position by position and, within one, item by item, up to the first opening that doesn't lead to its root.
+// Check 8: position by position and, within one, item by item, up to and with the first opening that doesn't lead to its root.
 pub fn openings_lead(
     size: usize,
     front: usize,
@@ -53,17 +64,19 @@ pub fn openings_lead(
     positions: &[u8],
     item: &[u8],
     openings: &[u8],
-) -> bool
+) -> Tested
     requires { ⌜ (front + 32 ≤ size) × (openingSize depth ≤ opening) × (l ≤ 8) × (length (now items) ≡ l * size) × (length (now positions) ≡ 4 * t) × (length (now item) ≡ size) × (length (now openings) ≡ t * suc l * opening) ⌝ }
-    ensures { λ r. ⌜ r ≡ every t (λ q. every (suc l) (leads size front opening l depth (now (items .entry)) (now (positions .entry)) (now (item .entry)) (now (openings .entry)) q)) ⌝ }
+    ensures lead { λ r. ⌜ r .lead ≡ every t (λ q. every (suc l) (leads size front opening l depth (now (items .entry)) (now (positions .entry)) (now (item .entry)) (now (openings .entry)) q)) ⌝ }
+    ensures blocks { λ r. ⌜ r .blocks ≡ blocksOf blockCount (stringsReached size front opening l t depth (now (items .entry)) (now (positions .entry)) (now (item .entry)) (now (openings .entry))) ⌝ }
 {
     let count = l + 1;
-    let mut good = true;
+    let mut lead = true;
+    let mut blocks = 0;
     let mut at = 0;
     'positions: for q in 0..t {
         let position = numbers::get(positions, q) as usize;
         for i in 0..count {
-            if !opening_leads(
+            let tested = opening_leads(
                 size,
                 front,
                 l,
@@ -74,14 +87,16 @@ pub fn openings_lead(
                 at,
                 position,
                 i,
-            ) {
-                good = false;
+            );
+            blocks += tested.blocks;
+            if !tested.lead {
+                lead = false;
                 break 'positions;
             }
             at += opening;
         }
     }
-    good
+    Tested { lead, blocks }
 }
 
 // Check 9, with the given weights: the new opened value at each position is the combination of the items' opened values.

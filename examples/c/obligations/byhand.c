@@ -21,9 +21,9 @@ void put(uint8_t *bytes, size_t j, uint32_t value) {
   for (size_t i = 0; i < LOMVUZE_NUMBER_BYTES; i++) bytes[LOMVUZE_NUMBER_BYTES * j + i] = (uint8_t)(value >> (8 * i));
 }
 
-void need(const char *call, uint32_t answer) {
-  if (answer == LOMVUZE_ACCEPTED) return;
-  fprintf(stderr, "%s answered %u\n", call, (unsigned)answer);
+void need(const char *call, uint32_t verdict) {
+  if (verdict == LOMVUZE_ACCEPTED) return;
+  fprintf(stderr, "%s answered %u\n", call, (unsigned)verdict);
   exit(1);
 }
 

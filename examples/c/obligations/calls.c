@@ -1,10 +1,10 @@
-/* The calls with their answers counted, and what the clearing house picks. */
+/* The calls with their verdicts counted, and what the clearing house picks. */
 #include "obligations.h"
 
-bool answered(struct tally *tally, enum call call, uint32_t answer) {
-  if (answer > LAST_ANSWER) need("a call", answer);
-  if (answer != LOMVUZE_ACCEPTED) tally->refused[call][answer]++;
-  return answer == LOMVUZE_ACCEPTED;
+bool answered(struct tally *tally, enum call call, uint32_t verdict) {
+  if (verdict > LAST_VERDICT) need("a call", verdict);
+  if (verdict != LOMVUZE_ACCEPTED) tally->refused[call][verdict]++;
+  return verdict == LOMVUZE_ACCEPTED;
 }
 
 bool cast(const struct circuit *c, struct claim claim, struct pair *pair, struct tally *tally) {
@@ -42,13 +42,13 @@ bool verify(const struct fold *f, struct tally *tally) {
     need("open", lomvuze_open(c->k, f->t, LOMVUZE_BUILT_IN_POINTS, witnesses[i], LOMVUZE_WITNESS_BYTES(c->k),
                               positions, LOMVUZE_POSITIONS_BYTES(f->t), opened + i * each, each));
   need("interleave", lomvuze_interleave(c->k, FOLDED, f->t, opened, all, openings, all));
-  return answered(tally, VERIFY,
-                  lomvuze_verify(c->m, c->n, c->k, FOLDED, f->t, f->challenge,
-                                 f->items, LOMVUZE_ITEMS_BYTES(c->m, c->n, FOLDED),
-                                 positions, LOMVUZE_POSITIONS_BYTES(f->t),
-                                 f->quotient, LOMVUZE_QUOTIENT_BYTES(c->m, FOLDED),
-                                 f->out.item, LOMVUZE_ITEM_BYTES(c->m, c->n),
-                                 openings, all));
+  uint64_t answer = lomvuze_verify(c->m, c->n, c->k, FOLDED, f->t, f->challenge,
+                                   f->items, LOMVUZE_ITEMS_BYTES(c->m, c->n, FOLDED),
+                                   positions, LOMVUZE_POSITIONS_BYTES(f->t),
+                                   f->quotient, LOMVUZE_QUOTIENT_BYTES(c->m, FOLDED),
+                                   f->out.item, LOMVUZE_ITEM_BYTES(c->m, c->n),
+                                   openings, all);
+  return answered(tally, VERIFY, LOMVUZE_VERDICT(answer));
 }
 
 bool decide_over(const uint8_t *points, size_t length, const struct circuit *c, const struct pair *pair, struct tally *tally) {

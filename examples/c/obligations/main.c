@@ -31,17 +31,17 @@ static void print_row(const char *const cells[COLUMNS], const int widths[COLUMNS
   printf("|\n");
 }
 
-/* The calls that refused, each with its answer and, where asked for, how often. */
+/* The calls that refused, each with its verdict and, where asked for, how often. */
 static void write_refusals(const struct tally *tally, bool counts, char text[LONGEST]) {
   size_t length = 0;
   text[0] = '\0';
   for (size_t c = 0; c < CALLS; c++)
-    for (size_t answer = 0; answer <= LAST_ANSWER; answer++) {
-      uint32_t times = tally->refused[c][answer];
+    for (size_t verdict = 0; verdict <= LAST_VERDICT; verdict++) {
+      uint32_t times = tally->refused[c][verdict];
       if (times == 0) continue;
       const char *comma = length == 0 ? "" : ", ";
-      int more = counts ? snprintf(text + length, LONGEST - length, "%s%s %zu at %" PRIu32, comma, calls[c], answer, times)
-                        : snprintf(text + length, LONGEST - length, "%s%s %zu", comma, calls[c], answer);
+      int more = counts ? snprintf(text + length, LONGEST - length, "%s%s %zu at %" PRIu32, comma, calls[c], verdict, times)
+                        : snprintf(text + length, LONGEST - length, "%s%s %zu", comma, calls[c], verdict);
       length += (size_t)more;
     }
 }

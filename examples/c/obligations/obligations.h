@@ -1,5 +1,5 @@
 /*
- * What the runs share: circuits, items with their witnesses, folds of two items, and the count of answers.
+ * What the runs share: circuits, items with their witnesses, folds of two items, and the count of verdicts.
  */
 #ifndef OBLIGATIONS_H
 #define OBLIGATIONS_H
@@ -60,26 +60,26 @@ void put(uint8_t *bytes, size_t j, uint32_t value);
 /* Puts the root of a pair's witness into its item. */
 void put_root(const struct circuit *circuit, struct pair *pair);
 
-/* ---- Answers */
+/* ---- Verdicts */
 
 enum call { CAST, FOLD, VERIFY, DECIDE, CALLS };
 
-enum { LAST_ANSWER = LOMVUZE_FIRST_INPUT };
+enum { LAST_VERDICT = LOMVUZE_FIRST_INPUT };
 
 /*
- * At how many challenges every call that the clearing house ran answered 0, at how many it must be so, and how often a call gave an answer that
+ * At how many challenges every call that the clearing house ran had the verdict 0, at how many it must be so, and how often a call had one that
  * is not 0. Casting and folding are the registrar's calls: where they refuse, the rest is done by hand.
  */
 struct tally {
   uint32_t accepted, expected;
-  uint32_t refused[CALLS][LAST_ANSWER + 1];
+  uint32_t refused[CALLS][LAST_VERDICT + 1];
 };
 
 /* For calls that no run expects to refuse: ends the program where one does. */
-void need(const char *call, uint32_t answer);
+void need(const char *call, uint32_t verdict);
 
-/* Counts an answer; whether it is 0. */
-bool answered(struct tally *tally, enum call call, uint32_t answer);
+/* Counts a verdict; whether it is 0. */
+bool answered(struct tally *tally, enum call call, uint32_t verdict);
 
 /* ---- What the clearing house picks. Anybody can foretell these numbers: they let every run print the same, and are not for a service. */
 
@@ -114,7 +114,7 @@ void pick_positions(struct fold *fold, struct picker *picker);
 void fold_by_hand(struct fold *fold);
 
 /*
- * The calls. Each counts its answer and says whether it is 0; `verify` opens the three witnesses first. The points that were agreed on are the
+ * The calls. Each counts its verdict and says whether it is 0; `verify` opens the three witnesses first. The points that were agreed on are the
  * built-in ones; `decide_over` is lent others.
  */
 bool cast(const struct circuit *circuit, struct claim claim, struct pair *pair, struct tally *tally);

@@ -7,7 +7,7 @@ const struct obligation obligations[OBLIGATIONS] = {
     {"3 challenge", "The challenge is picked after items and quotient are fixed, and not by the registrar."},
     {"4 positions", "At least k different positions, picked after items, quotient and new item are fixed, and not by the registrar."},
     {"5 same bytes", "Verify and decide get the same new item and the same sizes, and decide gets the agreed circuit and points."},
-    {"6 both answers", "The answers of verify and of decide are both 0."},
+    {"6 both verdicts", "The verdicts of verify and of decide are both 0."},
     {"7 second layer", "What is folded again is, byte by byte, the new item of a fold that was verified."},
 };
 
@@ -64,7 +64,7 @@ const struct trial trials[TRIALS] = {
      "Verify refuses: the opened values are not the combination."},
     {7, other_item_above, "another item is folded again, with e and x of the verified one", "the same item",
      "The fold of 2 × 3 = 6 and 4 × 5 = 21 passes verify. Its new item is not decided. Above, an item with e and x\n"
-     "of the new item, but a root of its own, is folded with 3 × 7 = 21. It holds, so all calls above answer 0.",
+     "of the new item, but a root of its own, is folded with 3 × 7 = 21. It holds, so all verdicts above are 0.",
      "The clearing house compares the bytes, and takes the new item alone. Fold refuses it. Folded by hand it\n"
      "passes verify, and decide refuses."},
     {7, lower_not_verified, "the lower fold is not verified", "verified too",

@@ -11,7 +11,7 @@ static void fold_next(struct fold *f, struct picker *house) {
   pick_positions(f, house);
 }
 
-/* Adds to the challenges at which every answer was 0. */
+/* Adds to the challenges at which every verdict was 0. */
 static void count(struct tally *tally, bool verified, bool decided) {
   if (verified && decided) tally->accepted++;
 }

@@ -1,11 +1,12 @@
 //! What the calls answer, and what their output buffers then hold: damaged input that is refused before anything is hashed,
-//! and encoding and deciding for the one witness whose trees are worked out.
+//! and encoding and deciding for the one witness whose trees are worked out. For verifying, verdict and blocks.
 
 use crate::claims::combined;
 use crate::inputs::{edges, honest_calls, worked_out};
 use crate::text::{list, Equation, File};
 use lomvuze_reference::calls;
 use lomvuze_reference::field::P;
+use lomvuze_samples::answer::{blocks, verdict};
 use lomvuze_samples::{put, Random};
 use std::collections::BTreeMap;
 
@@ -20,10 +21,10 @@ pub struct Call {
 
 impl Call {
     /// The reference's answer; it writes to the call's output buffers.
-    fn run(&mut self) -> u32 {
+    fn run(&mut self) -> u64 {
         let n = &self.numbers;
         let b = &mut self.buffers;
-        match self.name {
+        let verdict = match self.name {
             "encode" => {
                 let [points, w, code, root] = &mut b[..] else { panic!() };
                 calls::encode(n[0], points, w, code, root)
@@ -50,14 +51,18 @@ impl Call {
             }
             "verify" => {
                 let [items, positions, quotient, item, openings] = &b[..] else { panic!() };
-                calls::verify(n[0], n[1], n[2], n[3], n[4], n[5], items, positions, quotient, item, openings)
+                let challenge = n[5];
+                return calls::verify(
+                    n[0], n[1], n[2], n[3], n[4], challenge, items, positions, quotient, item, openings,
+                );
             }
             "decide" => {
                 let [points, a, b, c, item, wit] = &b[..] else { panic!() };
                 calls::decide(n[0], n[1], n[2], points, a, b, c, item, wit)
             }
             name => panic!("{name}"),
-        }
+        };
+        verdict.into()
     }
 
     /// Whether the first buffer holds points.
@@ -66,9 +71,13 @@ impl Call {
     }
 
     /// The definition's result in which the call answers this and its outputs hold what the buffers hold now.
-    fn result(&self, answer: u32) -> String {
-        if self.outputs.is_empty() {
-            return answer.to_string();
+    fn result(&self, answer: u64) -> String {
+        match self.name {
+            "verify" => {
+                return format!("record {{ verdict = {}; blocks = {} }}", verdict(answer), blocks(answer))
+            }
+            "decide" => return answer.to_string(),
+            _ => (),
         }
         let first = self.buffers.len() - self.outputs.len();
         let outputs = self.outputs.iter().zip(&self.buffers[first..]);
@@ -82,14 +91,15 @@ impl Call {
         numbers.chain(self.buffers.iter().map(list)).collect::<Vec<_>>().join(" ")
     }
 
-    /// Runs the call; the equation says what it answers and what its outputs hold.
+    /// Runs the call, for its verdict; the equation says what it answers and what its outputs hold.
     fn equation(mut self) -> (u32, Equation) {
         let arguments = self.arguments();
         let answer = self.run();
+        let verdict = verdict(answer);
         let tests = TESTS;
         // The trees of the one witness: at the built-in points, and at the lent ones.
         let lent = if self.buffers[0].is_empty() { "" } else { "lent-" };
-        let (unfolding, proof) = match (self.name, answer) {
+        let (unfolding, mut proof) = match (self.name, verdict) {
             ("encode", 0) => (
                 format!("encodeOver {tests} bytes val ofℕ"),
                 format!("λ i. record {{ answer = 0; code = bytes (map val ({lent}codeword-is i)); root = {lent}root-is i }}"),
@@ -113,8 +123,12 @@ impl Call {
             // The definition over an instance: the name alone is an abbreviation.
             (name, _) => (format!("{}Over {tests} depth", name.trim_matches(['«', '»'])), "refl".to_string()),
         };
+        // Those of verifying prove the verdict: it is none of 0, 8 and 9, and so nothing is hashed.
+        if self.name == "verify" {
+            proof = format!("verify-refused {arguments} {verdict} refl refl refl ({proof})");
+        }
         (
-            answer,
+            verdict,
             Equation {
                 left: format!("{} {arguments}", self.name),
                 right: self.result(answer),
@@ -124,12 +138,12 @@ impl Call {
         )
     }
 
-    /// The call's name and answer, and an equation that the prover can run: for what is not refused before hashing, that
+    /// The call's name and verdict, and an equation that the prover can run: for what is not refused before hashing, that
     /// the call passes its checks 2 to 6, 12 and 13.
     fn runnable(self) -> (&'static str, u32, Equation) {
         let (name, passes_early) = (self.name, self.passes_early());
-        let (answer, equation) = self.equation();
-        (name, answer, if runs_unhashed(name, answer) { equation } else { passes_early })
+        let (verdict, equation) = self.equation();
+        (name, verdict, if runs_unhashed(name, verdict) { equation } else { passes_early })
     }
 
     /// The equation that says that the call passes its checks 2 to 6, 12 and 13.
@@ -180,13 +194,13 @@ impl Call {
 /// The definitions that the tests of the checks are computed by.
 const TESTS: &str = "every allBelow allDifferent numbers";
 
-/// How many equations each call gets for each answer.
+/// How many equations each call gets for each verdict.
 const EACH: usize = 6;
 
 /// Whether the prover can run the call: it hashes nothing, or is refused before it does.
-fn runs_unhashed(name: &str, answer: u32) -> bool {
-    matches!(answer, 2..=6 | 12 | 13)
-        || matches!((name, answer), ("cast", 11) | ("verify", 7) | ("interleave", 0))
+fn runs_unhashed(name: &str, verdict: u32) -> bool {
+    matches!(verdict, 2..=6 | 12 | 13)
+        || matches!((name, verdict), ("cast", 11) | ("verify", 7) | ("interleave", 0))
 }
 
 pub fn answers() -> File {
@@ -201,8 +215,8 @@ pub fn answers() -> File {
             for _ in 0..1 + random.below(3) {
                 call.damage(random);
             }
-            let (name, answer, equation) = call.runnable();
-            let count = counts.entry((name, answer)).or_insert(0);
+            let (name, verdict, equation) = call.runnable();
+            let count = counts.entry((name, verdict)).or_insert(0);
             if *count < EACH {
                 *count += 1;
                 equations.push(equation);
@@ -223,7 +237,7 @@ use Rattle.theory.specs.Verify.{verify as verifyOver}
 use Rattle.theory.specs.Fp.{encode, cast, quotient, fold, «open», interleave, verify, decide}
 use Rattle.theory.specs.Fp.{encodeChecks, castChecks, quotientChecks, foldChecks, openChecks, interleaveChecks, verifyChecks, decideChecks}
 use Rattle.agreement.specs.Elements.{listed}
-use Rattle.agreement.specs.Runs.{cast-runs, cast-early, quotient-runs, quotient-early, fold-runs, fold-early, decide-runs, decide-tests, decide-early, verify-runs, verify-early}
+use Rattle.agreement.specs.Runs.{cast-runs, cast-early, quotient-runs, quotient-early, fold-runs, fold-early, decide-runs, decide-tests, decide-early, verify-runs, verify-refused, verify-early}
 use Rattle.agreement.specs.Inverses.{inverse-0-1, inverse-1-0}
 use Rattle.agreement.specs.Digests.{equation-16 as codeword-is, equation-17 as root-is, equation-34 as lent-codeword-is, equation-35 as lent-root-is}
 "

@@ -126,7 +126,7 @@ use mathlib.Core.List.{List, [], _∷_}
 use Prim.Native.Nat.{ℕ}
 use Rattle.field.specs.BabyBear.{babyBear, F, val, ofℕ}
 use Rattle.hash.specs.Word.{ROTR, Ch, Maj, Σ₀, Σ₁, σ₀, σ₁}
-use Rattle.hash.specs.Sha256.{digest, bytes, hash, pad, words, compress, inBytes, upTo, K, H₀, zeros, padding, scheduled, schedule, roundWith, rounds, sum}
+use Rattle.hash.specs.Sha256.{blockCount, digest, bytes, hash, pad, words, compress, inBytes, upTo, K, H₀, zeros, padding, scheduled, schedule, roundWith, rounds, sum}
 use Rattle.tree.specs.Merkle.{leafString, nodeString, root}
 use Rattle.tree.specs.Entry.{entry}
 use Rattle.code.specs.Points.{depth}
@@ -142,7 +142,7 @@ use Rattle.agreement.specs.Codewords.{equation-0 as codeword-numbers, eq
 
 /// The digests of one tree, and what they give: its root; the codeword; the root of the witness.
 fn digests_at(lent: &[u8], codeword_numbers: &str, equations: &mut Vec<Equation>) {
-    let shut = "digest bytes hash pad words compress inBytes upTo K H₀ zeros padding scheduled schedule roundWith rounds sum ROTR Ch Maj Σ₀ Σ₁ σ₀ σ₁";
+    let shut = "blockCount digest bytes hash pad words compress inBytes upTo K H₀ zeros padding scheduled schedule roundWith rounds sum ROTR Ch Maj Σ₀ Σ₁ σ₀ σ₁";
     let w = witness();
     let codeword = code::codeword(&used(w.len(), lent), &w);
     // A digest of the current level, and the name of the path from the tree's own term to it.

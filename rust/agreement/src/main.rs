@@ -3,6 +3,7 @@
 //!
 //! Usage: lomvuze-agreement FOLDER
 
+mod blocks;
 mod calls;
 mod claims;
 mod codes;
@@ -23,6 +24,7 @@ fn main() -> io::Result<()> {
         codes::codewords(),
         codes::entries(),
         codes::digests(),
+        blocks::counts(),
         calls::answers(),
     ];
 

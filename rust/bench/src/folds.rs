@@ -77,6 +77,7 @@ pub fn fold(
     0
 }
 
+/// 64 times the blocks that were processed, plus the verdict.
 pub fn verify(
     m: u32,
     n: u32,
@@ -89,7 +90,7 @@ pub fn verify(
     quotient: &[u8],
     new_item: &[u8],
     openings: &[u8],
-) -> u32 {
+) -> u64 {
     if !sizes(m, n, k) || !(1..=8).contains(&l) || t == 0 || t as usize > 4 * K {
         return 2;
     }
@@ -125,18 +126,33 @@ pub fn verify(
     if (0..new.len()).any(|j| get(new_item, j) != new[j]) {
         return 7;
     }
+    check_openings(item, weights, items, positions, new_item, openings)
+}
+
+/// Checks 8 and 9 of verifying, for items of so many bytes.
+fn check_openings(
+    item: usize,
+    weights: &[u32],
+    items: &[u8],
+    positions: &[u8],
+    new_item: &[u8],
+    openings: &[u8],
+) -> u64 {
+    let (count, stride) = (weights.len(), OPENING / 4);
     let shown = || openings.chunks_exact((count + 1) * OPENING);
+    let mut blocks = 0;
     for (position, shown) in positions.chunks_exact(4).zip(shown()) {
         let items = items.chunks_exact(item).chain([new_item]);
         for (opening, of) in shown.chunks_exact(OPENING).zip(items) {
-            if leads_to(opening, get(position, 0) as usize) != of[item - 32..] {
-                return 8;
+            let (led, hashed) = leads_to(opening, get(position, 0) as usize);
+            blocks += hashed;
+            if led != of[item - 32..] {
+                return 64 * blocks + 8;
             }
         }
     }
-    let stride = OPENING / 4;
     if shown().any(|shown| weighted(weights, shown, stride, 0) != get(shown, count * stride)) {
-        return 9;
+        return 64 * blocks + 9;
     }
-    0
+    64 * blocks
 }

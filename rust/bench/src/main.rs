@@ -187,7 +187,7 @@ const PLAIN: Library = library!(calls);
 fn compare_call(line: &str, name: Name, list: &Honest, t: usize) {
     let mut by_proved = Call::over(&mut Random::new(2), name, list.clone(), t);
     let mut by_plain = by_proved.clone();
-    assert_eq!(by_plain.run(&PLAIN), 0);
+    assert_eq!(by_plain.run(&PLAIN), by_plain.accepted());
     let proved = || black_box(&mut by_proved).run(&PROVED);
     compare(line, 1, 1, proved, || black_box(&mut by_plain).run(&PLAIN));
     assert!(by_proved == by_plain, "{line}");

@@ -43,12 +43,16 @@ fn compress(state: &mut [u32; 8], block: &[u8]) {
     }
 }
 
+/// A digest, and how many blocks were processed for it.
+pub type Hashed = ([u8; 32], u64);
+
 #[inline(never)]
-pub fn sha256(message: &[u8]) -> [u8; 32] {
-    let mut state = H0;
+pub fn sha256(message: &[u8]) -> Hashed {
+    let (mut state, mut count) = (H0, 0);
     let mut blocks = message.chunks_exact(64);
     for block in &mut blocks {
         compress(&mut state, block);
+        count += 1;
     }
     let rest = blocks.remainder();
     let mut last = [0u8; 128];
@@ -58,12 +62,13 @@ pub fn sha256(message: &[u8]) -> [u8; 32] {
     last[end - 8..end].copy_from_slice(&(8 * message.len() as u64).to_be_bytes());
     for block in last[..end].chunks_exact(64) {
         compress(&mut state, block);
+        count += 1;
     }
     let mut digest = [0; 32];
     for (bytes, word) in digest.chunks_exact_mut(4).zip(state) {
         bytes.copy_from_slice(&word.to_be_bytes());
     }
-    digest
+    (digest, count)
 }
 
 // ---- The field
@@ -167,14 +172,14 @@ pub fn codeword_at(w: &[u32], points: &[u32], out: &mut [u32]) {
 
 // ---- The tree over 256 leaves
 
-fn leaf(position: usize, value: u32) -> [u8; 32] {
+fn leaf(position: usize, value: u32) -> Hashed {
     let mut message = [0; 9];
     message[1..5].copy_from_slice(&(position as u32).to_le_bytes());
     message[5..].copy_from_slice(&value.to_le_bytes());
     sha256(&message)
 }
 
-fn node(left: &[u8; 32], right: &[u8; 32]) -> [u8; 32] {
+fn node(left: &[u8; 32], right: &[u8; 32]) -> Hashed {
     let mut message = [1; 65];
     message[1..33].copy_from_slice(left);
     message[33..].copy_from_slice(right);
@@ -189,10 +194,10 @@ pub fn root(values: &[u32]) -> [u8; 32] {
 /// The digest over values that stand at the positions from `first` on, by recursion, without a buffer.
 fn root_from(first: usize, values: &[u32]) -> [u8; 32] {
     match values {
-        [value] => leaf(first, *value),
+        [value] => leaf(first, *value).0,
         _ => {
             let (left, right) = values.split_at(values.len() / 2);
-            node(&root_from(first, left), &root_from(first + left.len(), right))
+            node(&root_from(first, left), &root_from(first + left.len(), right)).0
         }
     }
 }
@@ -201,10 +206,10 @@ fn root_from(first: usize, values: &[u32]) -> [u8; 32] {
 fn nodes(values: &[u32; 256]) -> [[u8; 32]; 512] {
     let mut nodes = [[0; 32]; 512];
     for (i, value) in values.iter().enumerate() {
-        nodes[256 + i] = leaf(i, *value);
+        nodes[256 + i] = leaf(i, *value).0;
     }
     for n in (1..256).rev() {
-        nodes[n] = node(&nodes[2 * n], &nodes[2 * n + 1]);
+        nodes[n] = node(&nodes[2 * n], &nodes[2 * n + 1]).0;
     }
     nodes
 }
@@ -223,12 +228,14 @@ pub fn openings(values: &[u32; 256], positions: impl Iterator<Item = usize>, out
     }
 }
 
-/// Where an opening leads.
-pub fn leads_to(opening: &[u8], position: usize) -> [u8; 32] {
-    let mut own = leaf(position, u32::from_le_bytes(opening[..4].try_into().unwrap()));
+/// Where an opening leads, and the blocks of all messages hashed on the way.
+pub fn leads_to(opening: &[u8], position: usize) -> Hashed {
+    let (mut own, mut blocks) = leaf(position, u32::from_le_bytes(opening[..4].try_into().unwrap()));
     for (level, sibling) in opening[4..].chunks_exact(32).enumerate() {
         let sibling = sibling.try_into().unwrap();
-        own = if position >> level & 1 == 0 { node(&own, sibling) } else { node(sibling, &own) };
+        let (above, count) =
+            if position >> level & 1 == 0 { node(&own, sibling) } else { node(sibling, &own) };
+        (own, blocks) = (above, blocks + count);
     }
-    own
+    (own, blocks)
 }

@@ -1,11 +1,13 @@
 //! The plain calls beside the reference: without points and with points that are lent; with points that check 12 refuses,
-//! and first inputs that check 13 refuses, alone and with later checks failing too. And the plain reader of sheets.
+//! and first inputs that check 13 refuses, alone and with later checks failing too; verifying with each check failing.
+//! And the plain SHA-256 and the plain reader of sheets.
 
-use bench::{calls, plain_sheet, points::differ};
+use bench::{calls, plain, plain_sheet, points::differ};
+use lomvuze_reference::sha256::{hash, Hashed};
 use lomvuze_reference::sheet::{self, write};
 use lomvuze_samples::sheet::damage::failing;
 use lomvuze_samples::sheet::{accepted, Buffers, Shape};
-use lomvuze_samples::{library, points, Call, Comparison, Honest, Library, Random, NAMES, REFERENCE};
+use lomvuze_samples::{library, points, Call, Comparison, Honest, Library, Name, Random, NAMES, REFERENCE};
 
 const PLAIN: Library = library!(calls);
 
@@ -17,16 +19,40 @@ fn points_and_first_inputs() {
         for lent in [vec![], points::built_in(64), points::different(&mut random, 64)] {
             let list = Honest::random(&mut random, 2, 3, 64, 2).lent(lent);
             let call = Call::over(&mut random, name, list, 3);
-            assert_eq!(comparison.compare(&call), 0, "{name:?}");
+            assert_eq!(comparison.compare(&call), call.accepted(), "{name:?}");
             let checks = name.checks();
             for (i, check) in checks.iter().enumerate().filter(|(_, check)| [12, 13].contains(*check)) {
                 for last in [i + 1, checks.len()] {
                     let mut call = call.clone();
                     checks[i..last].iter().rev().for_each(|check| call.fail(&mut random, *check));
-                    assert_eq!(comparison.compare(&call), *check, "{name:?}");
+                    assert_eq!(comparison.compare(&call), *check as u64, "{name:?}");
                 }
             }
         }
+    }
+}
+
+/// Verdicts and blocks of verifying.
+#[test]
+fn verify() {
+    let mut random = Random::new(3);
+    let mut comparison = Comparison::new(&PLAIN, &REFERENCE);
+    for l in 1..=8 {
+        let list = Honest::random(&mut random, 2, 3, 64, l);
+        let call = Call::over(&mut random, Name::Verify, list, 3);
+        comparison.compare_checks(&mut random, &call);
+    }
+    comparison.finish(Name::Verify, 8);
+}
+
+/// Digests and blocks of messages.
+#[test]
+fn hashes() {
+    let mut random = Random::new(4);
+    for length in (0..=200).chain([1000, 4096, 65_537]) {
+        let message = random.bytes(length);
+        let Hashed { digest, blocks } = hash(&message);
+        assert_eq!(plain::sha256(&message), (digest, blocks), "{length} bytes");
     }
 }
 

@@ -4,7 +4,7 @@ use bench::plain;
 use lomvuze_reference::{code, tree};
 use lomvuze_samples::Random;
 
-/// The root, every opening, and that an opening leads to the root from its own position alone.
+/// The root, every opening, and that an opening leads to the root from its own position alone. It has 17 blocks.
 #[test]
 fn trees() {
     let codeword = Random::new(1).elements(256);
@@ -16,7 +16,8 @@ fn trees() {
         assert_eq!(opening[..4], values[position].to_le_bytes());
         assert_eq!(&opening[4..], tree::path(position, &entries).as_flattened());
         for other in 0..256 {
-            assert_eq!(plain::leads_to(opening, other) == root, other == position, "{position} at {other}");
+            let (led, blocks) = plain::leads_to(opening, other);
+            assert_eq!((led == root, blocks), (other == position, 17), "{position} at {other}");
         }
     }
 }

@@ -12,7 +12,7 @@
 //! The exit status is 0 where all items are covered, 1 where one is not or the sheet is refused, and 2 where there
 //! is no file.
 
-use lomvuze::{decide, encode, fold, open, quotient, read_sheet, verify};
+use lomvuze::{decide, encode, fold, open, quotient, read_sheet, verify, Verified};
 use lomvuze::{Challenge, Circuit, Item, Points, Positions, Refusal, Sheet, Sizes, Witness, MAX_L, P, R};
 use std::collections::BTreeSet;
 use std::env::args_os;
@@ -114,8 +114,12 @@ fn run(
     }
     println!("  openings: {} witnesses at positions {positions}", openings.len());
 
-    verify(sizes, challenge, items, &positions, &quotient, &folded.item, &openings)?;
-    println!("  verify: accepted");
+    let most = sizes.verify_blocks(items.len(), positions.len());
+    let Verified { verdict, blocks } =
+        verify(sizes, challenge, items, &positions, &quotient, &folded.item, &openings);
+    let says = verdict.map_or_else(said, |()| "accepted".to_string());
+    println!("  verify: {says}; {blocks} of at most {most} SHA-256 blocks");
+    verdict?;
     decide(sizes, &points, circuit, &folded.item, &folded.witness)?;
     println!("  decide: accepted");
     Ok(())

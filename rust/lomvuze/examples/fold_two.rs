@@ -7,7 +7,7 @@
 //! The challenge is 2 where none is given. The exit status is 0 where every call accepts, 1 where one
 //! refuses, and 2 where the challenge is no number.
 
-use lomvuze::{cast, decide, fold, open, quotient, verify};
+use lomvuze::{cast, decide, fold, open, quotient, verify, Verified};
 use lomvuze::{Challenge, Circuit, Item, Points, Positions, PublicInputs, Refusal, Sizes, Witness, R};
 use std::env::args_os;
 use std::process::ExitCode;
@@ -61,8 +61,11 @@ fn run(challenge: Challenge) -> Result<(), Refusal> {
         openings.push(opened);
     }
 
-    verify(sizes, challenge, &items, &positions, &quotient, &folded.item, &openings)?;
-    println!("verify: accepted");
+    let most = sizes.verify_blocks(items.len(), positions.len());
+    let Verified { verdict, blocks } =
+        verify(sizes, challenge, &items, &positions, &quotient, &folded.item, &openings);
+    verdict?;
+    println!("verify: accepted; {blocks} of at most {most} SHA-256 blocks");
     decide(sizes, &points, &circuit, &folded.item, &folded.witness)?;
     println!("decide: accepted");
     println!("covered: 2 of 2 items, 0 and 1");

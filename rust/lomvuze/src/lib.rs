@@ -15,7 +15,7 @@
 //! - [`fold`]: quotient, new item and new witness for a challenge
 //! - [`open`]: the openings of one witness: to be called for each item's witness and for the new one, with
 //!   the same positions
-//! - [`verify`]: tests a fold, without circuit or witness
+//! - [`verify`]: tests a fold, without circuit or witness, and counts the SHA-256 blocks that this takes
 //! - [`decide`]: tests one item, such as the last new one, with its circuit and witness
 //!
 //! And [`encode`], the codeword and root of a witness, [`interleave`], the openings in the order of a verifier in C,
@@ -24,8 +24,8 @@
 //! All but [`verify`], [`interleave`] and [`read_sheet`] take the evaluation points of the code: [`Points::built_in`], or
 //! the caller's own.
 //!
-//! A call returns the [`Refusal`] of the first of its checks that fails. Each check covers the whole input
-//! before the next one runs.
+//! A call returns the [`Refusal`] of the first of its checks that fails; [`verify`] has it in the verdict of [`Verified`].
+//! Each check covers the whole input before the next one runs.
 //!
 //! ## What the caller sees to
 //!
@@ -36,7 +36,7 @@
 //!   quotient and new item; none by who hands these in. At least k positions differ
 //!   ([`Positions::count_different`]).
 //! - [`verify`] and [`decide`] get the same sizes and the same new item, [`decide`] the circuit that was agreed on, and
-//!   both accept.
+//!   both accept: the verdict of [`verify`] counts, and its blocks say nothing about the items.
 //! - Every call that takes points is lent the same ones, which were agreed on.
 //! - A verdict covers the items of its fold and no others. More than 8 take several folds: [`examples::fold_sheet`]
 //!   says which are covered.
@@ -90,7 +90,7 @@ pub use layout::{numbers_from_bytes, numbers_to_bytes};
 pub use lists::{Challenge, Points, Positions, PublicInputs, Quotient, Witness, R};
 pub use refusal::{NoCheck, Refusal};
 pub use sizes::{Sizes, MAX_ENTRIES, MAX_K, MAX_L, MAX_M, MAX_N, MAX_PAIRS, MAX_SHEET, P};
-pub use values::{Circuit, Digest, Encoded, Entry, Folded, Item, Opening, Sheet};
+pub use values::{Circuit, Digest, Encoded, Entry, Folded, Item, Opening, Sheet, Verified};
 
 /// The programs of the folder `examples`: they are on this page only.
 #[cfg(all(doc, not(doctest)))]

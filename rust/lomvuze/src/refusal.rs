@@ -16,7 +16,7 @@ use std::fmt;
 /// assert_eq!(refusal.number(), 3);
 /// assert_eq!(refusal.to_string(), "an element is p or more");
 ///
-/// // From the answer of a call in C, or from what `claims` prints.
+/// // From the verdict of a call in C, or from what `claims` prints.
 /// assert_eq!(Refusal::try_from(3), Ok(Refusal::Element));
 /// assert_eq!(Refusal::try_from(0).unwrap_err().to_string(), "no check has the number 0");
 /// ```
@@ -83,7 +83,7 @@ impl Refusal {
         Refusal::FirstInput,
     ];
 
-    /// The number of the check: what the call returns in C (`enum lomvuze_answer`).
+    /// The number of the check: the verdict of the call in C (`enum lomvuze_answer`).
     pub const fn number(self) -> u32 {
         self as u32
     }
@@ -138,10 +138,10 @@ impl fmt::Display for NoCheck {
 
 impl Error for NoCheck {}
 
-/// What the answer of a call says. The library answers 0 or the number of a check.
-pub(crate) fn accepted(answer: u32) -> Result<(), Refusal> {
-    match answer {
+/// What the verdict of a call says. That of the library is 0 or the number of a check.
+pub(crate) fn accepted(verdict: u32) -> Result<(), Refusal> {
+    match verdict {
         0 => Ok(()),
-        _ => Err(Refusal::try_from(answer).expect("an answer of the library")),
+        _ => Err(Refusal::try_from(verdict).expect("a verdict of the library")),
     }
 }

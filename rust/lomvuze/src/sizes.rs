@@ -24,8 +24,8 @@ pub(crate) const ENTRY_BYTES: usize = 12;
 pub(crate) const MOST_NUMBERS: usize = 4 * MAX_K as usize;
 
 /// The sizes of a circuit and its claims. The methods give the lengths in bytes of what
-/// [`Item::to_bytes`](crate::Item::to_bytes) and its like write; the calls need none of them from their
-/// caller.
+/// [`Item::to_bytes`](crate::Item::to_bytes) and its like write, and what verifying hashes; the calls need none of them
+/// from their caller.
 ///
 /// Which sizes are permitted is for the calls to say. For others the lengths follow the same rules, up to
 /// [`usize::MAX`].
@@ -35,6 +35,7 @@ pub(crate) const MOST_NUMBERS: usize = 4 * MAX_K as usize;
 ///
 /// let sizes = Sizes { m: 2, n: 4, k: 8 };
 /// assert_eq!((sizes.depth(), sizes.item_bytes(), sizes.quotient_bytes(8)), (5, 60, 84));
+/// assert_eq!(sizes.verify_blocks(8, 16), 1584);
 /// ```
 #[derive(Clone, Copy, PartialEq, Eq, Hash, Debug)]
 pub struct Sizes {
@@ -108,5 +109,24 @@ impl Sizes {
     /// The openings of l items and the new item at t positions.
     pub fn all_openings_bytes(self, l: usize, t: usize) -> usize {
         l.saturating_add(1).saturating_mul(self.openings_bytes(t))
+    }
+
+    /// The SHA-256 blocks that [`verify`](crate::verify) processes for l items at t positions where it accepts, which
+    /// is also the most that it processes: t × (l + 1) × (1 + 2 × log2(4k)). 0 where k, l or t is not permitted: then
+    /// it hashes nothing.
+    ///
+    /// ```
+    /// use lomvuze::Sizes;
+    ///
+    /// let greatest = Sizes { m: 6, n: 64, k: 64 };
+    /// assert_eq!(greatest.verify_blocks(8, 256), 39_168);
+    /// assert_eq!([greatest.verify_blocks(9, 256), greatest.verify_blocks(8, 257)], [0, 0]);
+    /// ```
+    pub fn verify_blocks(self, l: usize, t: usize) -> u64 {
+        let k_is_permitted = self.k.is_power_of_two() && (2..=MAX_K).contains(&self.k);
+        if !k_is_permitted || !(1..=MAX_L).contains(&l) || !(1..=4 * self.k as usize).contains(&t) {
+            return 0;
+        }
+        (t * (l + 1) * (1 + 2 * self.depth())) as u64
     }
 }

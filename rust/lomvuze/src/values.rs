@@ -1,6 +1,7 @@
 //! What the calls take and return, apart from lists of numbers.
 
-use crate::{PublicInputs, Quotient, Sizes, Witness, R};
+use crate::refusal::accepted;
+use crate::{PublicInputs, Quotient, Refusal, Sizes, Witness, R};
 
 /// A SHA-256 digest.
 pub type Digest = [u8; 32];
@@ -131,6 +132,37 @@ pub struct Folded {
     pub item: Item,
     /// Its witness.
     pub witness: Witness,
+}
+
+/// The answer of [`verify`](crate::verify): its verdict, and the number of SHA-256 blocks that it processed.
+///
+/// The blocks are those that FIPS 180-4 gives, with padding, for the messages hashed up to the verdict. An opening has one
+/// leaf, of one block, and log2(4k) inner nodes, of two blocks each. Openings are hashed position by position and, within
+/// one, item by item, the new item last, each of them whole, up to the first that does not lead to its root:
+///
+/// | verdict | blocks |
+/// |---|---|
+/// | accepted | [`Sizes::verify_blocks`] |
+/// | [`Refusal::Combination`] | the same: all openings are hashed |
+/// | [`Refusal::Opening`] | (j + 1) × (1 + 2 × log2(4k)), where opening j, from 0 and in that order, is the first that fails |
+/// | any other refusal | 0 |
+///
+/// They are never more than [`Sizes::verify_blocks`]. The theorems `accepted-blocks`, `refused-by-9`, `refused-by-8`,
+/// `refused-before-8` and `blocks-at-most` (`crates/theory/proofs/BlockCount.antt`) say this of the proved call.
+#[derive(Clone, Copy, PartialEq, Eq, Hash, Debug)]
+#[must_use = "the verdict says whether the fold is accepted"]
+pub struct Verified {
+    /// Whether the fold is accepted, or the first check that fails.
+    pub verdict: Result<(), Refusal>,
+    /// The blocks that were processed up to the verdict.
+    pub blocks: u64,
+}
+
+impl Verified {
+    /// From what the library returns: 64 times the blocks, plus the verdict.
+    pub(crate) fn from_answer(answer: u64) -> Verified {
+        Verified { verdict: accepted((answer % 64) as u32), blocks: answer / 64 }
+    }
 }
 
 /// What a sheet says, from [`read_sheet`](crate::read_sheet).

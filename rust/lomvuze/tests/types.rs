@@ -1,7 +1,7 @@
 //! What the types can do, as users expect it.
 
 use lomvuze::{Challenge, Circuit, Encoded, Entry, Folded, Item, NoCheck, Opening, Refusal, Sheet, Sizes};
-use lomvuze::{Points, Positions, PublicInputs, Quotient, Witness, R};
+use lomvuze::{Points, Positions, PublicInputs, Quotient, Verified, Witness, R};
 use std::error::Error;
 use std::fmt::{Debug, Display};
 use std::hash::Hash;
@@ -52,6 +52,19 @@ fn values() {
     value::<Refusal>();
     value::<Sheet>();
     value::<Sizes>();
+    value::<Verified>();
+}
+
+/// Verdict and blocks are read by name, and both count.
+#[test]
+fn verified() {
+    let accepted = Verified { verdict: Ok(()), blocks: 63 };
+    let copy = accepted;
+    let Verified { verdict, blocks } = copy;
+    assert_eq!((verdict, blocks), (Ok(()), 63));
+    assert_eq!(accepted, copy);
+    assert_ne!(accepted, Verified { blocks: 62, ..accepted });
+    assert_ne!(accepted, Verified { verdict: Err(Refusal::Combination), ..accepted });
 }
 
 #[test]

@@ -15,7 +15,7 @@ mod exported {
         pub fn lomvuze_test_chain_mul(x: u32, y: u32, n: u32) -> u32;
         pub fn lomvuze_test_chain_add(x: u32, y: u32, n: u32) -> u32;
 
-        pub fn lomvuze_test_digest(message: *const u8, length: usize, out: *mut u8) -> u32;
+        pub fn lomvuze_test_digest(message: *const u8, length: usize, out: *mut u8, blocks: *mut u64) -> u32;
         pub fn lomvuze_test_leaf(position: *const u8, value: *const u8, length: usize, out: *mut u8) -> u32;
         pub fn lomvuze_test_node(left: *const u8, right: *const u8, out: *mut u8);
 
@@ -91,11 +91,19 @@ pub fn chain_add(x: u32, y: u32, n: u32) -> u32 {
 
 // ---- SHA-256.
 
-pub fn digest(message: &[u8]) -> Digest {
-    let mut out = [0; 32];
-    let answer = unsafe { lomvuze_test_digest(message.as_ptr(), message.len(), out.as_mut_ptr()) };
+/// The digest of a message, and how many blocks were processed for it.
+pub fn digest(message: &[u8]) -> (Digest, u64) {
+    let (mut out, mut blocks) = ([0; 32], 0);
+    let answer =
+        unsafe { lomvuze_test_digest(message.as_ptr(), message.len(), out.as_mut_ptr(), &mut blocks) };
     assert_eq!(answer, 0);
-    out
+    (out, blocks)
+}
+
+/// The same for a message of 2^61 bytes or more, which is refused by its length: none of its bytes is read.
+pub fn digest_of_length(length: usize, out: &mut Digest, blocks: &mut u64) -> u32 {
+    assert!(length >= 1 << 61);
+    unsafe { lomvuze_test_digest([0].as_ptr(), length, out.as_mut_ptr(), blocks) }
 }
 
 /// Writes the digest of the leaf of a position and a value. Answers 0, or 1 where it refuses a value of more than

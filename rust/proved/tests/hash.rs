@@ -1,20 +1,23 @@
-//! The proved SHA-256, leaf and inner node beside the reference.
+//! The proved SHA-256, with its count of blocks, leaf and inner node beside the reference.
 
 use lomvuze_proved as proved;
-use lomvuze_reference::sha256::{digest, Digest};
+use lomvuze_reference::sha256::{hash, Digest, Hashed};
 use lomvuze_reference::tree;
 use lomvuze_samples::Random;
 
 const MARK: Digest = [0xAA; 32];
 
+/// Digest and blocks of a message are those of the reference.
+fn compare(message: &[u8]) {
+    let Hashed { digest, blocks } = hash(message);
+    assert_eq!(proved::digest(message), (digest, blocks), "{} bytes", message.len());
+}
+
 #[test]
 fn short_messages() {
     let mut random = Random::new(1);
     for length in 0..=300 {
-        for _ in 0..10 {
-            let message = random.bytes(length);
-            assert_eq!(proved::digest(&message), digest(&message), "{length} bytes");
-        }
+        (0..10).for_each(|_| compare(&random.bytes(length)));
     }
 }
 
@@ -22,11 +25,31 @@ fn short_messages() {
 fn long_messages() {
     let mut random = Random::new(2);
     for length in [1000, 4095, 4096, 4097, 65_535, 65_536, 100_003, 1 << 20] {
-        let message = random.bytes(length);
-        assert_eq!(proved::digest(&message), digest(&message), "{length} bytes");
+        compare(&random.bytes(length));
     }
-    let a = vec![b'a'; 1_000_000];
-    assert_eq!(proved::digest(&a), digest(&a));
+    for _ in 0..200 {
+        let length = 300 + random.below(20_000);
+        compare(&random.bytes(length));
+    }
+    compare(&vec![b'a'; 1_000_000]);
+}
+
+/// By hand: the last length of one block and of two, and the first of the next.
+#[test]
+fn blocks() {
+    let lengths = [0, 1, 9, 55, 56, 63, 64, 65, 119, 120, 183, 184, 1_000_000];
+    let counts = lengths.map(|length| proved::digest(&vec![7; length]).1);
+    assert_eq!(counts, [1, 1, 1, 1, 2, 2, 2, 2, 2, 3, 3, 4, 15_626]);
+}
+
+/// A length in bits of 2^64 or more does not fit the padding. Nothing is written.
+#[test]
+fn longer_messages_are_refused() {
+    for length in [1 << 61, (1 << 61) + 1, isize::MAX as usize, usize::MAX] {
+        let (mut out, mut blocks) = (MARK, 77);
+        assert_eq!(proved::digest_of_length(length, &mut out, &mut blocks), 1, "{length} bytes");
+        assert_eq!((out, blocks), (MARK, 77));
+    }
 }
 
 #[test]

@@ -48,7 +48,7 @@ fn proved_leads_to(opening: &[u8], position: usize) -> Digest {
 
 fn reference_leads_to(opening: &[u8], position: usize) -> Digest {
     let (value, path) = parts(opening);
-    tree::leads_to(&entry(position, value), position, &path)
+    tree::leads_to(&entry(position, value), position, &path).digest
 }
 
 #[test]

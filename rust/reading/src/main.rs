@@ -18,12 +18,18 @@ use std::env;
 use world::{Target, World};
 
 /// The theorems, as file and name.
-const THEOREMS: [(&str, &str); 7] = [
+const THEOREMS: [(&str, &str); 13] = [
     ("theory/proofs/QuotientStated", "quotient-theorem"),
     ("theory/proofs/FirstStatement", "first-statement"),
     ("theory/proofs/SecondStatement", "second-statement"),
     ("theory/proofs/LeadingOne", "verified-never-13"),
     ("theory/proofs/LeadingOne", "folded-never-13"),
+    ("theory/proofs/BlockCount", "blocks-at-most"),
+    ("theory/proofs/BlockCount", "accepted-blocks"),
+    ("theory/proofs/BlockCount", "refused-before-8"),
+    ("theory/proofs/BlockCount", "refused-by-8"),
+    ("theory/proofs/BlockCount", "refused-by-9"),
+    ("theory/proofs/BlockCount", "answer-read-back"),
     ("tree/proofs/Positions", "opening-fixes-position"),
     ("roundtrip/proofs/RoundTrip", "read-written"),
 ];

@@ -13,8 +13,8 @@ use std::ops::RangeInclusive;
 /// The number of the check that fails.
 pub(crate) type Refusal = u32;
 
-/// Runs a call's checks and, if all pass, its writing.
-pub(crate) fn answer(call: impl FnOnce() -> Result<(), Refusal>) -> u32 {
+/// Runs a call's checks and, if all pass, its writing: 0, or the number of the first check that fails.
+pub(crate) fn verdict(call: impl FnOnce() -> Result<(), Refusal>) -> u32 {
     match call() {
         Ok(()) => 0,
         Err(number) => number,

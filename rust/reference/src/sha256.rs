@@ -117,17 +117,55 @@ fn compress(hash: [u32; 8], block: &[u8], constants: &[u32; 64]) -> [u32; 8] {
     std::array::from_fn(|i| hash[i].wrapping_add(after[i]))
 }
 
-/// 6.2: the digest of a message.
-pub fn digest(message: &[u8]) -> Digest {
+/// The digest of a message, and how many blocks were processed for it.
+#[derive(Clone, Copy, PartialEq, Debug)]
+pub struct Hashed {
+    pub digest: Digest,
+    pub blocks: u64,
+}
+
+/// 6.2: processes the blocks of the padded message, one after the other, and counts them.
+pub fn hash(message: &[u8]) -> Hashed {
     static CONSTANTS: std::sync::OnceLock<([u32; 64], [u32; 8])> = std::sync::OnceLock::new();
     let (constants, initial) = CONSTANTS.get_or_init(|| (round_constants(), initial_value()));
-    let mut hash = *initial;
+    let (mut hash, mut blocks) = (*initial, 0);
     for block in pad(message).chunks(64) {
         hash = compress(hash, block, constants);
+        blocks += 1;
     }
     let mut digest = [0; 32];
     for i in 0..8 {
         digest[4 * i..4 * i + 4].copy_from_slice(&hash[i].to_be_bytes());
     }
-    digest
+    Hashed { digest, blocks }
+}
+
+/// The digest alone.
+pub fn digest(message: &[u8]) -> Digest {
+    hash(message).digest
+}
+
+#[cfg(test)]
+mod tests {
+    use super::*;
+
+    /// The padded message ends with the length and has whole blocks, and each is counted.
+    #[test]
+    fn blocks_of_every_length() {
+        for length in 0..=300 {
+            let message = vec![0x5a; length];
+            let padded = pad(&message);
+            assert_eq!((padded.len() % 64, &padded[..length]), (0, &message[..]), "{length} bytes");
+            assert_eq!(padded[padded.len() - 8..], (8 * length as u64).to_be_bytes(), "{length} bytes");
+            // One block more than are full before the bit 1 and the eight bytes of the length.
+            assert_eq!(hash(&message).blocks, (length as u64 + 8) / 64 + 1, "{length} bytes");
+        }
+    }
+
+    /// By hand: up to 55 bytes leave room for the bit 1 and the length in the first block, and up to 119 in the second.
+    #[test]
+    fn blocks_by_hand() {
+        let counts = [0, 1, 9, 55, 56, 63, 64, 65, 119, 120].map(|length| hash(&vec![0; length]).blocks);
+        assert_eq!(counts, [1, 1, 1, 1, 2, 2, 2, 2, 2, 3]);
+    }
 }

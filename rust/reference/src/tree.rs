@@ -1,16 +1,26 @@
 //! Hash trees over a list of entries: RFC 6962, section 2.1. An entry is a string of bytes; that of a value in a
 //! codeword names its position ([`code::entry`](crate::code::entry)).
 
-use crate::sha256::{digest, Digest};
+use crate::sha256::{digest, hash, Digest, Hashed};
 
-/// The hash of a leaf: the byte 0x00 and the entry.
-pub fn leaf(entry: &[u8]) -> Digest {
-    digest(&[&[0x00], entry].concat())
+/// What is hashed for a leaf: the byte 0x00 and the entry.
+fn leaf_message(entry: &[u8]) -> Vec<u8> {
+    [&[0x00], entry].concat()
 }
 
-/// The hash of an inner node: the byte 0x01 and the two child digests.
+/// What is hashed for an inner node: the byte 0x01 and the two child digests.
+fn node_message(left: &Digest, right: &Digest) -> Vec<u8> {
+    [&[0x01], &left[..], &right[..]].concat()
+}
+
+/// The hash of a leaf.
+pub fn leaf(entry: &[u8]) -> Digest {
+    digest(&leaf_message(entry))
+}
+
+/// The hash of an inner node.
 pub fn node(left: &Digest, right: &Digest) -> Digest {
-    digest(&[&[0x01], &left[..], &right[..]].concat())
+    digest(&node_message(left, right))
 }
 
 /// The largest power of two below n, for n of 2 or more.
@@ -49,11 +59,16 @@ pub fn path<E: AsRef<[u8]>>(position: usize, entries: &[E]) -> Vec<Digest> {
 }
 
 /// Where a path leads from an entry at a position, in a tree over a power of two of entries: the own digest is the
-/// left child at level j where bit j of the position is 0.
-pub fn leads_to(entry: &[u8], position: usize, path: &[Digest]) -> Digest {
-    let mut own = leaf(entry);
+/// left child at level j where bit j of the position is 0. And the blocks of all messages hashed on the way.
+pub fn leads_to(entry: &[u8], position: usize, path: &[Digest]) -> Hashed {
+    let mut own = hash(&leaf_message(entry));
     for (level, sibling) in path.iter().enumerate() {
-        own = if position >> level & 1 == 0 { node(&own, sibling) } else { node(sibling, &own) };
+        let message = match position >> level & 1 {
+            0 => node_message(&own.digest, sibling),
+            _ => node_message(sibling, &own.digest),
+        };
+        let above = hash(&message);
+        own = Hashed { digest: above.digest, blocks: own.blocks + above.blocks };
     }
     own
 }

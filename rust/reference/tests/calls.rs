@@ -1,6 +1,7 @@
 //! Random calls: honest ones are accepted, damaged ones answer with checks of their own, and refusals write
-//! nothing.
+//! nothing. Verifying counts as many blocks as its verdict permits.
 
+use lomvuze_samples::answer::verdict;
 use lomvuze_samples::{Call, Random, NAMES, REFERENCE};
 use std::collections::BTreeSet;
 
@@ -10,7 +11,7 @@ fn honest_calls_are_accepted() {
     for name in NAMES {
         for _ in 0..100 {
             let mut call = Call::honest(&mut random, name);
-            assert_eq!(call.run(&REFERENCE), 0, "{name:?}");
+            assert_eq!(call.run(&REFERENCE), call.accepted(), "{name:?}");
         }
     }
 }
@@ -20,7 +21,7 @@ fn honest_calls_are_accepted() {
 fn damaged_calls() {
     let mut random = Random::new(2);
     for name in NAMES {
-        let mut answers = BTreeSet::new();
+        let mut verdicts = BTreeSet::new();
         for _ in 0..1000 {
             let mut call = Call::honest(&mut random, name);
             for _ in 0..random.below(3) {
@@ -28,12 +29,14 @@ fn damaged_calls() {
             }
             let before = call.clone();
             let answer = call.run(&REFERENCE);
+            let verdict = verdict(answer);
             assert_eq!(call.inputs, before.inputs);
-            assert!(answer == 0 || call == before, "{name:?} wrote and answered {answer}");
-            answers.insert(answer);
+            assert!(call.permits(answer), "{name:?} answered {answer}");
+            assert!(verdict == 0 || call == before, "{name:?} wrote and answered {answer}");
+            verdicts.insert(verdict);
         }
         let expected: BTreeSet<u32> = name.checks().iter().copied().chain([0]).collect();
-        assert_eq!(answers, expected, "{name:?}");
+        assert_eq!(verdicts, expected, "{name:?}");
     }
 }
 
@@ -47,12 +50,12 @@ fn failing_checks() {
             for (i, check) in name.checks().iter().enumerate() {
                 let mut alone = call.clone();
                 alone.fail(&mut random, *check);
-                assert_eq!(alone.run(&REFERENCE), *check, "{name:?}");
+                assert_eq!(verdict(alone.run(&REFERENCE)), *check, "{name:?}");
                 let mut with_later = call.clone();
                 for check in name.checks()[i..].iter().rev() {
                     with_later.fail(&mut random, *check);
                 }
-                assert_eq!(with_later.run(&REFERENCE), *check, "{name:?}");
+                assert_eq!(verdict(with_later.run(&REFERENCE)), *check, "{name:?}");
             }
         }
     }

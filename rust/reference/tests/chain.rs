@@ -2,6 +2,7 @@
 
 use lomvuze_reference::calls;
 use lomvuze_reference::field::P;
+use lomvuze_samples::answer::{after, after_all};
 use lomvuze_samples::{number_at, points, put, Chain, Honest, Random, REFERENCE};
 
 fn random_chain(random: &mut Random, list: &Honest) -> Chain {
@@ -18,7 +19,7 @@ fn honest_lists_pass() {
     for _ in 0..60 {
         let list = Honest::of_any_size(&mut random);
         let chain = random_chain(&mut random, &list);
-        assert_eq!((chain.verify(&REFERENCE, &list), chain.decide(&REFERENCE, &list)), (0, 0));
+        chain.assert_accepted(&REFERENCE, &list);
     }
 }
 
@@ -31,7 +32,7 @@ fn all_positions_and_largest_sizes() {
         let all: Vec<u32> = (0..4 * list.k).collect();
         for challenge in [list.l, P - 1] {
             let chain = Chain::new(&REFERENCE, &list, challenge, &all);
-            assert_eq!((chain.verify(&REFERENCE, &list), chain.decide(&REFERENCE, &list)), (0, 0));
+            chain.assert_accepted(&REFERENCE, &list);
         }
     }
 }
@@ -43,7 +44,7 @@ fn folds_of_folds() {
     let mut list = Honest::random(&mut random, 3, 2, 8, 2);
     for _ in 0..5 {
         let chain = random_chain(&mut random, &list);
-        assert_eq!((chain.verify(&REFERENCE, &list), chain.decide(&REFERENCE, &list)), (0, 0));
+        chain.assert_accepted(&REFERENCE, &list);
         list.items.splice(..list.item_length(), chain.new_item);
         list.witnesses.splice(..list.witness_length(), chain.new_witness);
     }
@@ -71,14 +72,15 @@ fn damaged_folds_are_refused() {
         bump(&mut damaged.quotient, 4 * random.below(6));
         assert_eq!(damaged.verify(&REFERENCE, &list), 7);
 
-        // Any byte of any opening: its value, or a digest of its path.
+        // Any byte of any opening: its value, or a digest of its path. It and those before it are hashed.
         let mut damaged = chain.clone();
-        let opening = random.below(4 * chain.t as usize) * list.opening_length();
+        let j = random.below(4 * chain.t as usize);
+        let (opening, refused) = (j * list.opening_length(), after(j + 1, list.k, 8));
         damaged.openings[opening + 4 + random.below(list.opening_length() - 4)] ^= 1 << random.below(8);
-        assert_eq!(damaged.verify(&REFERENCE, &list), 8);
+        assert_eq!(damaged.verify(&REFERENCE, &list), refused);
         let mut damaged = chain.clone();
         bump(&mut damaged.openings, opening);
-        assert_eq!(damaged.verify(&REFERENCE, &list), 8);
+        assert_eq!(damaged.verify(&REFERENCE, &list), refused);
 
         // A new item with another witness behind its root: the openings lead to it, and are no combination.
         let mut other = list.clone();
@@ -97,7 +99,7 @@ fn damaged_folds_are_refused() {
             let at = (q * 4 + 3) * list.opening_length();
             damaged.openings[at..at + opening.len()].copy_from_slice(opening);
         }
-        assert_eq!(damaged.verify(&REFERENCE, &list), 9);
+        assert_eq!(damaged.verify(&REFERENCE, &list), after_all(list.k, list.l, chain.t, 9));
 
         // Deciding: another witness, or another e.
         let mut damaged = chain.clone();

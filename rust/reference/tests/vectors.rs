@@ -2,11 +2,18 @@
 
 use lomvuze_reference::code::{built_in_points, codeword, entries, entry};
 use lomvuze_reference::field::{Element, P, ZERO};
-use lomvuze_reference::sha256::{digest, initial_value, round_constants, Digest};
+use lomvuze_reference::sha256::{digest, hash, initial_value, round_constants, Digest};
 use lomvuze_reference::tree::{leads_to, leaf, node, path, root};
 
 fn hex(bytes: &[u8]) -> String {
     bytes.iter().map(|byte| format!("{byte:02x}")).collect()
+}
+
+/// Digest and count of blocks of a message.
+fn hashed(message: &[u8]) -> (String, u64) {
+    let hashed = hash(message);
+    assert_eq!(hashed.digest, digest(message));
+    (hex(&hashed.digest), hashed.blocks)
 }
 
 fn bytes(hex: &str) -> Vec<u8> {
@@ -23,28 +30,27 @@ fn constants() {
 
 #[test]
 fn empty_message() {
-    assert_eq!(hex(&digest(b"")), "e3b0c44298fc1c149afbf4c8996fb92427ae41e4649b934ca495991b7852b855");
+    let expected = "e3b0c44298fc1c149afbf4c8996fb92427ae41e4649b934ca495991b7852b855";
+    assert_eq!(hashed(b""), (expected.to_string(), 1));
 }
 
 #[test]
 fn one_block() {
-    assert_eq!(hex(&digest(b"abc")), "ba7816bf8f01cfea414140de5dae2223b00361a396177a9cb410ff61f20015ad");
+    let expected = "ba7816bf8f01cfea414140de5dae2223b00361a396177a9cb410ff61f20015ad";
+    assert_eq!(hashed(b"abc"), (expected.to_string(), 1));
 }
 
 #[test]
 fn two_blocks() {
-    assert_eq!(
-        hex(&digest(b"abcdbcdecdefdefgefghfghighijhijkijkljklmklmnlmnomnopnopq")),
-        "248d6a61d20638b8e5c026930c3e6039a33ce45964ff2167f6ecedd419db06c1"
-    );
+    let message = b"abcdbcdecdefdefgefghfghighijhijkijkljklmklmnlmnomnopnopq";
+    let expected = "248d6a61d20638b8e5c026930c3e6039a33ce45964ff2167f6ecedd419db06c1";
+    assert_eq!(hashed(message), (expected.to_string(), 2));
 }
 
 #[test]
 fn a_million_times_a() {
-    assert_eq!(
-        hex(&digest(&vec![b'a'; 1_000_000])),
-        "cdc76e5c9914fb9281a1c7e284d73e67f1809a48a497200e046d39ccc7112cd0"
-    );
+    let expected = "cdc76e5c9914fb9281a1c7e284d73e67f1809a48a497200e046d39ccc7112cd0";
+    assert_eq!(hashed(&vec![b'a'; 1_000_000]), (expected.to_string(), 15_626));
 }
 
 /// The entries and roots that are published for RFC 6962 trees of 0 to 8 entries.
@@ -136,10 +142,26 @@ fn openings_lead_to_the_root() {
             let path = path(position, &entries);
             for other in 0..32 {
                 let led = leads_to(&entry(other, value), other, &path);
-                assert_eq!(led == root(&entries), other == position, "{position} at {other}");
+                assert_eq!(led.digest == root(&entries), other == position, "{position} at {other}");
             }
             let another = value + element(1);
-            assert_ne!(leads_to(&entry(position, another), position, &path), root(&entries));
+            assert_ne!(leads_to(&entry(position, another), position, &path).digest, root(&entries));
+        }
+    }
+}
+
+/// One block for the leaf of nine bytes and two for each inner node of 65, wherever the opening leads.
+#[test]
+fn blocks_of_openings() {
+    for depth in 0..=8 {
+        let values: Vec<Element> = (0..1 << depth).map(element).collect();
+        let (entries, blocks) = (entries(&values), 1 + 2 * depth as u64);
+        for (position, own) in values.iter().enumerate() {
+            let path = path(position, &entries);
+            assert_eq!(path.len(), depth);
+            for value in [*own, element(P - 1)] {
+                assert_eq!(leads_to(&entry(position, value), position, &path).blocks, blocks);
+            }
         }
     }
 }

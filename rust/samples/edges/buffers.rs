@@ -1,7 +1,7 @@
 //! The calls and buffers at whose edges the tests look.
 
 use super::calls;
-use lomvuze_samples::bytes;
+use lomvuze_samples::{answer, bytes};
 
 /// A fold of (1, 6; 2, 3) and (1, 20; 4, 5) under the circuit w0 × w1 = x1, with every buffer that a call takes or
 /// writes. Output buffers hold 0xAA before a call.
@@ -152,10 +152,18 @@ impl Buffers {
         calls::interleave(self.k, self.l, self.t, &self.opened, &mut self.ordered)
     }
 
-    pub fn verify(&mut self) -> u32 {
+    /// The answer of verifying: verdict and blocks.
+    pub fn verified(&self) -> u64 {
         let Buffers { m, n, k, l, t, challenge, items, positions, quotient_in, item_in, openings_in, .. } =
             self;
         calls::verify(*m, *n, *k, *l, *t, *challenge, items, positions, quotient_in, item_in, openings_in)
+    }
+
+    /// The verdict of verifying. The blocks are as many as it permits.
+    pub fn verify(&mut self) -> u32 {
+        let answer = self.verified();
+        assert!(answer::verify_permits(self.k, self.l, self.t, answer), "{answer}");
+        answer::verdict(answer)
     }
 
     pub fn decide(&mut self) -> u32 {
@@ -164,6 +172,7 @@ impl Buffers {
     }
 }
 
+/// A call, which gives its verdict.
 pub type Call = fn(&mut Buffers) -> u32;
 pub type Change = fn(&mut Buffers);
 pub type Buffer = fn(&mut Buffers) -> &mut Vec<u8>;
@@ -179,24 +188,24 @@ pub const VERIFY: Call = Buffers::verify;
 pub const DECIDE: Call = Buffers::decide;
 pub const ALL: [Call; 8] = [ENCODE, CAST, QUOTIENT, FOLD, OPEN, INTERLEAVE, VERIFY, DECIDE];
 
-/// The answer of a call, and that a refusal writes nothing.
-pub fn answer_to(call: Call, before: &Buffers) -> u32 {
+/// The verdict of a call, and that a refusal writes nothing.
+pub fn verdict_of(call: Call, before: &Buffers) -> u32 {
     let mut buffers = before.clone();
-    let answer = call(&mut buffers);
-    if answer != 0 {
+    let verdict = call(&mut buffers);
+    if verdict != 0 {
         assert_eq!(buffers, *before);
     }
-    answer
+    verdict
 }
 
-/// The answer of a call after a change.
-pub fn answer(call: Call, change: impl Fn(&mut Buffers)) -> u32 {
+/// The verdict of a call after a change.
+pub fn verdict(call: Call, change: impl Fn(&mut Buffers)) -> u32 {
     let mut buffers = Buffers::new();
     change(&mut buffers);
-    answer_to(call, &buffers)
+    verdict_of(call, &buffers)
 }
 
-/// The answers of the eight calls after a change.
-pub fn answers(change: impl Fn(&mut Buffers)) -> [u32; 8] {
-    ALL.map(|call| answer(call, &change))
+/// The verdicts of the eight calls after a change.
+pub fn verdicts(change: impl Fn(&mut Buffers)) -> [u32; 8] {
+    ALL.map(|call| verdict(call, &change))
 }

@@ -9,7 +9,7 @@ use lomvuze_samples::{bytes, put};
 
 #[test]
 fn elements_below_p() {
-    let encode = |number| answer(ENCODE, |all| put(&mut all.w, 4, number));
+    let encode = |number| verdict(ENCODE, |all| put(&mut all.w, 4, number));
     assert_eq!([encode(2013265920), encode(2013265921), encode(u32::MAX)], [0, 3, 3]);
     let fields: [(Part, [u32; 8]); 12] = [
         (|all| &mut all.a[8..], [0, 3, 3, 3, 0, 0, 0, 3]),
@@ -26,7 +26,7 @@ fn elements_below_p() {
         (|all| &mut all.witness_in, [0, 0, 0, 0, 0, 0, 0, 3]),
     ];
     for (i, (field, expected)) in fields.into_iter().enumerate() {
-        assert_eq!(answers(|all| put(field(all), 0, P)), expected, "number {i}");
+        assert_eq!(verdicts(|all| put(field(all), 0, P)), expected, "number {i}");
     }
 }
 
@@ -44,7 +44,7 @@ fn r_below_p() {
 fn entries_inside_and_in_order() {
     let expected = [0, 4, 4, 4, 0, 0, 0, 4];
     for list in [(|all| &mut all.a) as Buffer, |all| &mut all.b, |all| &mut all.c] {
-        let with = |entries: &[u32]| answers(|all| *list(all) = bytes(entries));
+        let with = |entries: &[u32]| verdicts(|all| *list(all) = bytes(entries));
         assert_eq!(with(&[1, 0, 1]), expected, "a row too high");
         assert_eq!(with(&[0, 4, 1]), expected, "a column too high");
         assert_eq!(with(&[0, 1, 0, 0, 1, 0]), expected, "an entry twice");
@@ -66,63 +66,63 @@ fn entries_inside_and_in_order() {
 
 #[test]
 fn challenges() {
-    let fold = |challenge| answer(FOLD, |all| all.challenge = challenge);
+    let fold = |challenge| verdict(FOLD, |all| all.challenge = challenge);
     assert_eq!([0, 1, 2, P - 1, P, u32::MAX].map(fold), [5, 5, 0, 0, 5, 5]);
     // At another challenge the fold's new item is another one.
-    let verify = |challenge| answer(VERIFY, |all| all.challenge = challenge);
+    let verify = |challenge| verdict(VERIFY, |all| all.challenge = challenge);
     assert_eq!([0, 1, 2, 3, P - 1, P, u32::MAX].map(verify), [5, 5, 0, 7, 7, 5, 5]);
 }
 
 #[test]
 fn positions() {
     for position in [8, u32::MAX] {
-        assert_eq!(answers(|all| put(&mut all.positions, 8, position)), [0, 0, 0, 0, 6, 0, 6, 0]);
+        assert_eq!(verdicts(|all| put(&mut all.positions, 8, position)), [0, 0, 0, 0, 6, 0, 6, 0]);
     }
-    assert_eq!(answer(OPEN, |all| put(&mut all.positions, 8, 7)), 0);
+    assert_eq!(verdict(OPEN, |all| put(&mut all.positions, 8, 7)), 0);
     // The openings of position 4 do not lead to the roots from position 7.
-    assert_eq!(answer(VERIFY, |all| put(&mut all.positions, 8, 7)), 8);
+    assert_eq!(verdict(VERIFY, |all| put(&mut all.positions, 8, 7)), 8);
 }
 
 // ---- Checks 7 to 11
 
 #[test]
 fn new_items() {
-    assert_eq!(answer(VERIFY, |all| put(&mut all.item_in, 0, 9)), 7);
-    assert_eq!(answer(VERIFY, |all| put(&mut all.item_in, 8, 35)), 7);
-    assert_eq!(answer(VERIFY, |all| put(&mut all.quotient_in, 0, 5)), 7);
-    assert_eq!(answer(VERIFY, |all| put(&mut all.items, ITEM, 1)), 7);
+    assert_eq!(verdict(VERIFY, |all| put(&mut all.item_in, 0, 9)), 7);
+    assert_eq!(verdict(VERIFY, |all| put(&mut all.item_in, 8, 35)), 7);
+    assert_eq!(verdict(VERIFY, |all| put(&mut all.quotient_in, 0, 5)), 7);
+    assert_eq!(verdict(VERIFY, |all| put(&mut all.items, ITEM, 1)), 7);
     // Z(2) = 2: the quotient and e may change together.
     let both = |all: &mut Buffers| {
         put(&mut all.quotient_in, 0, 5);
         put(&mut all.item_in, 0, 10);
     };
-    assert_eq!(answer(VERIFY, both), 0);
+    assert_eq!(verdict(VERIFY, both), 0);
 }
 
 #[test]
 fn each_opening_counts() {
     for opening in 0..9 {
         for byte in [4, 4 + 31, OPENING - 1] {
-            assert_eq!(answer(VERIFY, |all| all.openings_in[opening * OPENING + byte] ^= 1), 8);
+            assert_eq!(verdict(VERIFY, |all| all.openings_in[opening * OPENING + byte] ^= 1), 8);
         }
-        assert_eq!(answer(VERIFY, |all| put(&mut all.openings_in, opening * OPENING, 1)), 8);
+        assert_eq!(verdict(VERIFY, |all| put(&mut all.openings_in, opening * OPENING, 1)), 8);
     }
-    assert_eq!(answer(VERIFY, |all| all.items[2 * ITEM - 1] ^= 1), 8);
-    assert_eq!(answer(VERIFY, |all| all.item_in[ITEM - 1] ^= 1), 8);
+    assert_eq!(verdict(VERIFY, |all| all.items[2 * ITEM - 1] ^= 1), 8);
+    assert_eq!(verdict(VERIFY, |all| all.item_in[ITEM - 1] ^= 1), 8);
 }
 
 /// The openings lead to their roots, and are no combination.
 #[test]
 fn values_combine() {
-    assert_eq!(answer(VERIFY, Buffers::show_item_1_as_the_new_one), 9);
+    assert_eq!(verdict(VERIFY, Buffers::show_item_1_as_the_new_one), 9);
 }
 
 #[test]
 fn roots_and_claims() {
-    assert_eq!(answers(|all| all.items[ITEM - 1] ^= 1), [0, 0, 10, 10, 0, 0, 8, 0]);
-    assert_eq!(answers(|all| put(&mut all.witnesses, 12, 6)), [0, 0, 10, 10, 0, 0, 0, 0]);
-    assert_eq!(answers(|all| all.item_in[ITEM - 1] ^= 1), [0, 0, 0, 0, 0, 0, 8, 10]);
-    assert_eq!(answers(|all| put(&mut all.x, 4, 7)), [0, 11, 0, 0, 0, 0, 0, 0]);
-    assert_eq!(answers(|all| put(&mut all.items, ITEM + 8, 21)), [0, 0, 11, 11, 0, 0, 7, 0]);
-    assert_eq!(answers(|all| put(&mut all.item_in, 0, 9)), [0, 0, 0, 0, 0, 0, 7, 11]);
+    assert_eq!(verdicts(|all| all.items[ITEM - 1] ^= 1), [0, 0, 10, 10, 0, 0, 8, 0]);
+    assert_eq!(verdicts(|all| put(&mut all.witnesses, 12, 6)), [0, 0, 10, 10, 0, 0, 0, 0]);
+    assert_eq!(verdicts(|all| all.item_in[ITEM - 1] ^= 1), [0, 0, 0, 0, 0, 0, 8, 10]);
+    assert_eq!(verdicts(|all| put(&mut all.x, 4, 7)), [0, 11, 0, 0, 0, 0, 0, 0]);
+    assert_eq!(verdicts(|all| put(&mut all.items, ITEM + 8, 21)), [0, 0, 11, 11, 0, 0, 7, 0]);
+    assert_eq!(verdicts(|all| put(&mut all.item_in, 0, 9)), [0, 0, 0, 0, 0, 0, 7, 11]);
 }

@@ -24,12 +24,12 @@ fn sample(random: &mut Random, name: Name, (m, n): (u32, u32), l: u32) -> Sample
 }
 
 /// The answer of a call with another number at some places of an input, and that a refusal writes nothing.
-fn with_numbers(call: &Sample, i: usize, places: &[usize], number: u32) -> u32 {
+fn with_numbers(call: &Sample, i: usize, places: &[usize], number: u32) -> u64 {
     let mut changed = call.clone();
     places.iter().for_each(|at| put(&mut changed.inputs[i], *at, number));
     let before = changed.clone();
     let answer = changed.run(&TESTED);
-    assert!(answer == 0 || changed == before, "{:?} wrote and answered {answer}", call.name);
+    assert!(answer == call.accepted() || changed == before, "{:?} wrote and answered {answer}", call.name);
     answer
 }
 
@@ -43,7 +43,7 @@ fn every_item_counts() {
         for l in 1..=8 {
             for sizes in SIZES {
                 let call = sample(&mut random, name, sizes, l);
-                assert_eq!(call.clone().run(&TESTED), 0, "{name:?}");
+                assert_eq!(call.clone().run(&TESTED), call.accepted(), "{name:?}");
                 let items = call.input_of(Part::Items).unwrap();
                 let places = call.first_inputs_of(items);
                 assert_eq!(places.len(), l as usize);
@@ -53,7 +53,7 @@ fn every_item_counts() {
                         assert_eq!(answer, 13, "{name:?}, item {i} of {l}: {number}");
                     }
                     for several in [&places[..], &places[1..], &places[..places.len() - 1]] {
-                        let expected = if several.is_empty() { 0 } else { 13 };
+                        let expected = if several.is_empty() { call.accepted() } else { 13 };
                         assert_eq!(
                             with_numbers(&call, items, several, number),
                             expected,
@@ -87,7 +87,7 @@ fn one_item() {
 #[test]
 fn the_new_item() {
     for number in OTHERS {
-        assert_eq!(answers(|all| put(&mut all.item_in, 4, number)), [0, 0, 0, 0, 0, 0, 7, 13]);
+        assert_eq!(verdicts(|all| put(&mut all.item_in, 4, number)), [0, 0, 0, 0, 0, 0, 7, 13]);
     }
     let mut random = Random::new(32);
     for l in 1..=8 {
@@ -107,7 +107,7 @@ fn the_new_item() {
         put(&mut all.items, 4, 3);
         put(&mut all.items, ITEM + 4, 2);
     };
-    assert_eq!(answers(both), [0, 0, 13, 13, 0, 0, 13, 0]);
+    assert_eq!(verdicts(both), [0, 0, 13, 13, 0, 0, 13, 0]);
 }
 
 /// Beside the first input no number is asked to be 1, and none makes up for it.
@@ -136,10 +136,10 @@ fn one_input() {
 #[test]
 fn first_inputs_of_p_or_more() {
     for number in [P, P + 1, u32::MAX] {
-        assert_eq!(answers(|all| put(&mut all.x, 0, number)), [0, 3, 0, 0, 0, 0, 0, 0]);
-        assert_eq!(answers(|all| put(&mut all.items, 4, number)), [0, 0, 3, 3, 0, 0, 3, 0]);
-        assert_eq!(answers(|all| put(&mut all.items, ITEM + 4, number)), [0, 0, 3, 3, 0, 0, 3, 0]);
-        assert_eq!(answers(|all| put(&mut all.item_in, 4, number)), [0, 0, 0, 0, 0, 0, 3, 3]);
+        assert_eq!(verdicts(|all| put(&mut all.x, 0, number)), [0, 3, 0, 0, 0, 0, 0, 0]);
+        assert_eq!(verdicts(|all| put(&mut all.items, 4, number)), [0, 0, 3, 3, 0, 0, 3, 0]);
+        assert_eq!(verdicts(|all| put(&mut all.items, ITEM + 4, number)), [0, 0, 3, 3, 0, 0, 3, 0]);
+        assert_eq!(verdicts(|all| put(&mut all.item_in, 4, number)), [0, 0, 0, 0, 0, 0, 3, 3]);
     }
 }
 
@@ -162,7 +162,7 @@ fn the_place_of_check_13() {
     ];
     let runs_13 = [false, true, true, true, false, false, true, true];
     for (number, other, alone) in others {
-        assert_eq!(answers(other), alone, "check {number} alone");
+        assert_eq!(verdicts(other), alone, "check {number} alone");
         for items in [&[1][..], &[2], &[1, 2]] {
             let both = |all: &mut Buffers| {
                 other(all);
@@ -174,7 +174,7 @@ fn the_place_of_check_13() {
             };
             let first =
                 |i: usize| if runs_13[i] && ![2, 3, 12, 4].contains(&alone[i]) { 13 } else { alone[i] };
-            assert_eq!(answers(both), std::array::from_fn(first), "check {number} and items {items:?}");
+            assert_eq!(verdicts(both), std::array::from_fn(first), "check {number} and items {items:?}");
         }
     }
 }
@@ -186,13 +186,13 @@ fn before_roots() {
         all.items[ITEM - 1] ^= 1;
         all.item_in[ITEM - 1] ^= 1;
     };
-    assert_eq!(answers(roots), [0, 0, 10, 10, 0, 0, 8, 10]);
+    assert_eq!(verdicts(roots), [0, 0, 10, 10, 0, 0, 8, 10]);
     let and_first_inputs = |all: &mut Buffers| {
         roots(all);
         put(&mut all.items, ITEM + 4, 0);
         put(&mut all.item_in, 4, 0);
     };
-    assert_eq!(answers(and_first_inputs), [0, 0, 13, 13, 0, 0, 13, 13]);
+    assert_eq!(verdicts(and_first_inputs), [0, 0, 13, 13, 0, 0, 13, 13]);
 }
 
 // ---- Folded items
@@ -210,7 +210,7 @@ fn folds_of_honest_lists() {
         let challenge = random_challenge(&mut random, list.l);
         let chain = Chain::new(&TESTED, &list, challenge, &[0]);
         assert_eq!(number_at(&chain.new_item, 4 + 4 * list.m as usize), 1);
-        assert_eq!((chain.verify(&TESTED, &list), chain.decide(&TESTED, &list)), (0, 0));
+        chain.assert_accepted(&TESTED, &list);
     }
 }
 
@@ -241,7 +241,7 @@ fn folds_of_lists_that_do_not_hold() {
         let (r, x, e) = claims::fold_claim(&items, &quotient, Element::new(challenge).unwrap());
         assert_eq!(x[0].number(), 1);
         write(&[&[e], &r[..], &x].concat(), &mut chain.new_item);
-        assert_eq!(chain.verify(&TESTED, &list), 0);
+        assert_eq!(chain.verify(&TESTED, &list), chain.accepted(&list));
         *answers.entry(chain.decide(&TESTED, &list)).or_insert(0) += 1;
     }
     assert!(answers.keys().all(|answer| [0, 11].contains(answer)) && answers[&11] > 150, "{answers:?}");

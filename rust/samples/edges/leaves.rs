@@ -5,7 +5,7 @@ use super::buffers::*;
 use super::calls;
 use lomvuze_reference::field::Element;
 use lomvuze_reference::{code, tree};
-use lomvuze_samples::bytes;
+use lomvuze_samples::{answer, bytes};
 
 /// The positions and the witnesses of the fold.
 const POSITIONS: [usize; 3] = [0, 7, 4];
@@ -61,7 +61,7 @@ fn openings_of_values(all: &mut Buffers) {
     for (i, opening) in all.openings_in.chunks_mut(OPENING).enumerate() {
         let (position, values) = (POSITIONS[i / 3], values_alone(&WITNESSES[i % 3]));
         let path = tree::path(position, &values);
-        assert_eq!(tree::leads_to(&opening[..4], position, &path), tree::root(&values));
+        assert_eq!(tree::leads_to(&opening[..4], position, &path).digest, tree::root(&values));
         opening[4..].copy_from_slice(path.as_flattened());
     }
 }
@@ -72,9 +72,9 @@ fn trees_over_values_alone() {
         roots_of_values(all);
         openings_of_values(all);
     };
-    assert_eq!(answers(roots_of_values), [0, 0, 10, 10, 0, 0, 8, 10]);
-    assert_eq!(answers(openings_of_values), [0, 0, 0, 0, 0, 0, 8, 0]);
-    assert_eq!(answers(both), [0, 0, 10, 10, 0, 0, 8, 10]);
+    assert_eq!(verdicts(roots_of_values), [0, 0, 10, 10, 0, 0, 8, 10]);
+    assert_eq!(verdicts(openings_of_values), [0, 0, 0, 0, 0, 0, 8, 0]);
+    assert_eq!(verdicts(both), [0, 0, 10, 10, 0, 0, 8, 10]);
 }
 
 // ---- Openings at other positions
@@ -95,7 +95,10 @@ fn openings_of_a_constant_codeword() {
             let shown = openings[own].repeat(2);
             for position in 0..4 * k {
                 let answer = calls::verify(0, 2, k, 1, 1, 1, &item, &bytes(&[position]), &[], &item, &shown);
-                assert_eq!(answer, if position as usize == own { 0 } else { 8 }, "{own} at {position}");
+                // Of two openings, the first is refused at another position.
+                let expected =
+                    if position as usize == own { answer::after(2, k, 0) } else { answer::after(1, k, 8) };
+                assert_eq!(answer, expected, "{own} at {position}");
             }
         }
     }
@@ -113,14 +116,14 @@ fn swapped_openings() {
         for i in 0..3 {
             let of_one_item =
                 |all: &mut Buffers| swap(&mut all.openings_in, OPENING, 3 * one + i, 3 * other + i);
-            assert_eq!(answer(VERIFY, of_one_item), 8);
+            assert_eq!(verdict(VERIFY, of_one_item), 8);
         }
         let of_all = |all: &mut Buffers| swap(&mut all.openings_in, 3 * OPENING, one, other);
-        assert_eq!(answer(VERIFY, of_all), 8);
+        assert_eq!(verdict(VERIFY, of_all), 8);
         let with_positions = |all: &mut Buffers| {
             of_all(all);
             swap(&mut all.positions, 4, one, other);
         };
-        assert_eq!(answer(VERIFY, with_positions), 0);
+        assert_eq!(verdict(VERIFY, with_positions), 0);
     }
 }

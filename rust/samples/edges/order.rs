@@ -17,7 +17,7 @@ const CONCERNS: [&[u32]; 8] = [
 ];
 
 /// Changes that make the checks fail one by one, from the last to the first: each makes its check fail, in the calls
-/// that run it, and none before it. The answer of a call is the number of the last change that concerns it.
+/// that run it, and none before it. The verdict of a call is the number of the last change that concerns it.
 #[test]
 fn the_first_failing_check_answers() {
     let steps: [(u32, Change); 12] = [
@@ -52,7 +52,7 @@ fn the_first_failing_check_answers() {
             let expected =
                 steps[..broken].iter().rev().map(|step| step.0).find(|number| concerns.contains(number));
             let change = |all: &mut Buffers| steps[..broken].iter().for_each(|step| step.1(all));
-            assert_eq!(answer(call, change), expected.unwrap_or(0), "checks {concerns:?}, {broken} changes");
+            assert_eq!(verdict(call, change), expected.unwrap_or(0), "checks {concerns:?}, {broken} changes");
         }
     }
 }
@@ -61,12 +61,12 @@ fn the_first_failing_check_answers() {
 /// of the last position does not lead to its root: 8 before 9, though 9 fails at an earlier position.
 #[test]
 fn each_check_covers_all_positions() {
-    assert_eq!(answer(VERIFY, Buffers::show_item_1_as_the_new_one), 9);
+    assert_eq!(verdict(VERIFY, Buffers::show_item_1_as_the_new_one), 9);
     for opening in 0..9 {
         let change = |all: &mut Buffers| {
             all.show_item_1_as_the_new_one();
             all.openings_in[(opening + 1) * OPENING - 1] ^= 1;
         };
-        assert_eq!(answer(VERIFY, change), 8, "opening {opening}");
+        assert_eq!(verdict(VERIFY, change), 8, "opening {opening}");
     }
 }

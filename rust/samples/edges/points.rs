@@ -21,11 +21,11 @@ const fn by_points(lent: u32, others: u32) -> [u32; 8] {
 /// The calls that take points.
 const NAMES: [Name; 6] = [Name::Encode, Name::Cast, Name::Quotient, Name::Fold, Name::Open, Name::Decide];
 
-/// The answers of the eight calls where all are lent the points above, after a change.
-fn answers_lent(change: impl Fn(&mut Buffers)) -> [u32; 8] {
+/// The verdicts of the eight calls where all are lent the points above, after a change.
+fn verdicts_lent(change: impl Fn(&mut Buffers)) -> [u32; 8] {
     let mut all = Buffers::lent(&POINTS);
     change(&mut all);
-    ALL.map(|call| answer_to(call, &all))
+    ALL.map(|call| verdict_of(call, &all))
 }
 
 /// Codeword and root of w.
@@ -44,7 +44,7 @@ fn encode_answer(k: u32, points: &[u8]) -> u32 {
 
 #[test]
 fn a_chain_with_lent_points() {
-    assert_eq!(answers_lent(|_| ()), [0; 8]);
+    assert_eq!(verdicts_lent(|_| ()), [0; 8]);
     let (code, _) = encode(2, &bytes(&POINTS), &bytes(&[2, 3]));
     assert_eq!(code, bytes(&[2, 5, P - 1, 23, 8, 986734102, P - 4, 11]));
 }
@@ -57,7 +57,7 @@ fn chains_of_every_k() {
         let list = Honest::random(&mut random, 1, 2, k, 2).lent(points);
         let positions: Vec<u32> = (0..4 * k).step_by(3).collect();
         let chain = Chain::new(&TESTED, &list, 5, &positions);
-        assert_eq!((chain.verify(&TESTED, &list), chain.decide(&TESTED, &list)), (0, 0), "k = {k}");
+        chain.assert_accepted(&TESTED, &list);
     }
 }
 
@@ -119,7 +119,7 @@ fn swapped_points() {
 #[test]
 fn lengths_of_points() {
     let other = |length: usize| {
-        answers_lent(|all| all.points = bytes(&(0..=length as u32).collect::<Vec<_>>())[..length].to_vec())
+        verdicts_lent(|all| all.points = bytes(&(0..=length as u32).collect::<Vec<_>>())[..length].to_vec())
     };
     // Eight numbers take 32 bytes.
     for length in [1, 3, 4, 16, 28, 31, 33, 36, 64, 65, 128] {
@@ -142,7 +142,7 @@ fn lengths_of_points() {
 fn points_below_p() {
     for i in 0..8 {
         for number in [P, P + 1, P + 5, u32::MAX] {
-            assert_eq!(answers_lent(|all| put(&mut all.points, 4 * i, number)), by_points(12, 0));
+            assert_eq!(verdicts_lent(|all| put(&mut all.points, 4 * i, number)), by_points(12, 0));
         }
     }
     for k in [2, 4, 8, 16, 32, 64] {
@@ -157,7 +157,7 @@ fn no_point_repeats_another() {
     for (i, point) in POINTS.into_iter().enumerate() {
         for j in (0..8).filter(|j| *j != i) {
             let repeated = |all: &mut Buffers| put(&mut all.points, 4 * j, point);
-            assert_eq!(answers_lent(repeated), by_points(12, 0), "{i} at {j}");
+            assert_eq!(verdicts_lent(repeated), by_points(12, 0), "{i} at {j}");
         }
     }
     for k in [4, 8, 16, 32, 64] {
@@ -188,7 +188,7 @@ fn the_place_of_check_12() {
         (11, |all| put(&mut all.c, 8, 2), [0, 11, 11, 11, 0, 0, 0, 11]),
     ];
     for (number, other, alone) in others {
-        assert_eq!(answers_lent(other), alone, "check {number} alone");
+        assert_eq!(verdicts_lent(other), alone, "check {number} alone");
         for (place, point) in [(7, 0), (4, 0), (0, P), (7, u32::MAX)] {
             let both = |all: &mut Buffers| {
                 other(all);
@@ -196,19 +196,19 @@ fn the_place_of_check_12() {
             };
             let takes = by_points(1, 0);
             let first = |i: usize| if takes[i] == 0 || [2, 3].contains(&alone[i]) { alone[i] } else { 12 };
-            assert_eq!(answers_lent(both), std::array::from_fn(first), "check {number} and point {point}");
+            assert_eq!(verdicts_lent(both), std::array::from_fn(first), "check {number} and point {point}");
         }
     }
     let roots = |all: &mut Buffers| {
         all.items[ITEM - 1] ^= 1;
         all.item_in[ITEM - 1] ^= 1;
     };
-    assert_eq!(answers_lent(roots), [0, 0, 10, 10, 0, 0, 8, 10]);
+    assert_eq!(verdicts_lent(roots), [0, 0, 10, 10, 0, 0, 8, 10]);
     let and_points = |all: &mut Buffers| {
         roots(all);
         put(&mut all.points, 28, 0);
     };
-    assert_eq!(answers_lent(and_points), [12, 12, 12, 12, 12, 0, 8, 12]);
+    assert_eq!(verdicts_lent(and_points), [12, 12, 12, 12, 12, 0, 8, 12]);
 }
 
 // ---- A chain whose calls are lent different points
@@ -219,9 +219,9 @@ fn other_points_than_those_of_the_items() {
     let mut swapped = POINTS;
     swapped.swap(0, 7);
     for other in [vec![], points::built_in(2), bytes(&swapped)] {
-        assert_eq!(answers_lent(|all| all.points.clone_from(&other)), [0, 0, 10, 10, 0, 0, 0, 10]);
+        assert_eq!(verdicts_lent(|all| all.points.clone_from(&other)), [0, 0, 10, 10, 0, 0, 0, 10]);
     }
-    assert_eq!(answers(|all| all.points = bytes(&POINTS)), [0, 0, 10, 10, 0, 0, 0, 10]);
+    assert_eq!(verdicts(|all| all.points = bytes(&POINTS)), [0, 0, 10, 10, 0, 0, 0, 10]);
 }
 
 /// Verifying knows no points, and refuses openings of other codewords: of all items, or of one.
@@ -229,15 +229,15 @@ fn other_points_than_those_of_the_items() {
 fn openings_at_other_points() {
     let (lent, built_in) = (Buffers::lent(&POINTS), Buffers::new());
     assert_eq!(
-        answers_lent(|all| all.openings_in.clone_from(&built_in.openings_in)),
+        verdicts_lent(|all| all.openings_in.clone_from(&built_in.openings_in)),
         [0, 0, 0, 0, 0, 0, 8, 0]
     );
-    assert_eq!(answer(VERIFY, |all| all.openings_in.clone_from(&lent.openings_in)), 8);
+    assert_eq!(verdict(VERIFY, |all| all.openings_in.clone_from(&lent.openings_in)), 8);
     for opening in 0..9 {
         let one = |all: &mut Buffers| {
             let at = opening * OPENING..(opening + 1) * OPENING;
             all.openings_in[at.clone()].copy_from_slice(&built_in.openings_in[at]);
         };
-        assert_eq!(answers_lent(one)[6], 8, "opening {opening}");
+        assert_eq!(verdicts_lent(one)[6], 8, "opening {opening}");
     }
 }

@@ -20,23 +20,23 @@ fn k_is_a_power_of_two_from_2_to_64() {
         assert_eq!(encode(k), if permitted { 0 } else { 2 }, "k = {k}");
     }
     for k in [0, 1, 3, 128, u32::MAX, 1 << 31] {
-        assert_eq!(answers(|all| all.k = k), [2; 8]);
+        assert_eq!(verdicts(|all| all.k = k), [2; 8]);
     }
 }
 
 #[test]
 fn sizes_and_counts() {
-    let change_m = |m| answers(move |all| all.m = m);
+    let change_m = |m| verdicts(move |all| all.m = m);
     assert_eq!(change_m(7), [0, 2, 2, 2, 0, 0, 2, 2]);
     assert_eq!(change_m(u32::MAX), [0, 2, 2, 2, 0, 0, 2, 2]);
     for n in [0, 1, 3, 65, u32::MAX] {
-        assert_eq!(answers(|all| all.n = n), [0, 2, 2, 2, 0, 0, 2, 2]);
+        assert_eq!(verdicts(|all| all.n = n), [0, 2, 2, 2, 0, 0, 2, 2]);
     }
     for l in [0, 1, 3, 9, u32::MAX] {
-        assert_eq!(answers(|all| all.l = l), [0, 0, 2, 2, 0, 2, 2, 0]);
+        assert_eq!(verdicts(|all| all.l = l), [0, 0, 2, 2, 0, 2, 2, 0]);
     }
     for t in [0, 2, 4, 9, u32::MAX] {
-        assert_eq!(answers(|all| all.t = t), [0, 0, 0, 0, 2, 2, 2, 0]);
+        assert_eq!(verdicts(|all| all.t = t), [0, 0, 0, 0, 2, 2, 2, 0]);
     }
 }
 
@@ -103,12 +103,12 @@ fn lengths() {
         (|all| &mut all.ordered, [0, 0, 0, 0, 0, 2, 0, 0]),
     ];
     for (i, (field, expected)) in fields.into_iter().enumerate() {
-        assert_eq!(answers(|all| field(all).push(0)), expected, "buffer {i}, one byte long");
+        assert_eq!(verdicts(|all| field(all).push(0)), expected, "buffer {i}, one byte long");
         if !field(&mut Buffers::new()).is_empty() {
             let short = |all: &mut Buffers| {
                 field(all).pop();
             };
-            assert_eq!(answers(short), expected, "buffer {i}, one byte short");
+            assert_eq!(verdicts(short), expected, "buffer {i}, one byte short");
         }
     }
 }
@@ -124,5 +124,5 @@ fn entry_counts() {
     };
     assert_eq!(cast([1024, 1024, 1024]), 0);
     assert_eq!([cast([1025, 0, 0]), cast([0, 1025, 0]), cast([0, 0, 1025])], [2, 2, 2]);
-    assert_eq!(answers(|all| all.a.clear()), [0, 11, 11, 11, 0, 0, 0, 11]);
+    assert_eq!(verdicts(|all| all.a.clear()), [0, 11, 11, 11, 0, 0, 0, 11]);
 }

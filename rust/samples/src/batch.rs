@@ -58,7 +58,7 @@ pub fn unfolded() -> Vec<u8> {
 pub fn folded() -> Vec<u8> {
     let plan = plan();
     let chain = Chain::new(&REFERENCE, &plan.list, plan.challenge, &plan.positions);
-    assert_eq!((chain.verify(&REFERENCE, &plan.list), chain.decide(&REFERENCE, &plan.list)), (0, 0));
+    chain.assert_accepted(&REFERENCE, &plan.list);
     [
         &plan.front(b"lomvuze1")[..],
         &chain.positions,

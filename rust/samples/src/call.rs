@@ -15,11 +15,12 @@ pub struct Call {
 }
 
 impl Call {
-    pub fn run(&mut self, by: &Library) -> u32 {
+    /// Runs the call and gives its answer.
+    pub fn run(&mut self, by: &Library) -> u64 {
         let n = &self.numbers;
         let i = &self.inputs;
         let o = &mut self.outputs;
-        match self.name {
+        let verdict = match self.name {
             Name::Encode => {
                 let [code, root] = &mut o[..] else { unreachable!() };
                 (by.encode)(n[0], &i[0], &i[1], code, root)
@@ -43,13 +44,14 @@ impl Call {
             Name::Open => (by.open)(n[0], n[1], &i[0], &i[1], &i[2], &mut o[0]),
             Name::Interleave => (by.interleave)(n[0], n[1], n[2], &i[0], &mut o[0]),
             Name::Verify => {
-                (by.verify)(n[0], n[1], n[2], n[3], n[4], n[5], &i[0], &i[1], &i[2], &i[3], &i[4])
+                return (by.verify)(n[0], n[1], n[2], n[3], n[4], n[5], &i[0], &i[1], &i[2], &i[3], &i[4])
             }
             Name::Decide => {
                 let [points, a, b, c, item, wit] = &i[..] else { unreachable!() };
                 (by.decide)(n[0], n[1], n[2], points, a, b, c, item, wit)
             }
-        }
+        };
+        verdict.into()
     }
 
     /// A call that is accepted, mostly of small sizes.

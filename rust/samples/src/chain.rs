@@ -1,7 +1,7 @@
 //! The chain of calls for an honest list: what folding and opening write, and what verifying and deciding are
 //! lent.
 
-use crate::{bytes, Honest, Library};
+use crate::{answer, bytes, Honest, Library};
 
 /// One fold of an honest list.
 #[derive(Clone, PartialEq, Debug)]
@@ -51,7 +51,8 @@ impl Chain {
         Chain { challenge, t, positions, quotient, new_item, new_witness, openings }
     }
 
-    pub fn verify(&self, by: &Library, list: &Honest) -> u32 {
+    /// The answer of verifying, verdict and blocks.
+    pub fn verify(&self, by: &Library, list: &Honest) -> u64 {
         (by.verify)(
             list.m,
             list.n,
@@ -67,8 +68,19 @@ impl Chain {
         )
     }
 
+    /// The answer of verifying where it accepts.
+    pub fn accepted(&self, list: &Honest) -> u64 {
+        answer::after_all(list.k, list.l, self.t, 0)
+    }
+
     pub fn decide(&self, by: &Library, list: &Honest) -> u32 {
         let Honest { m, n, k, points, a, b, c, .. } = list;
         (by.decide)(*m, *n, *k, points, a, b, c, &self.new_item, &self.new_witness)
+    }
+
+    /// Verifying and deciding accept, and verifying hashes all openings.
+    #[track_caller]
+    pub fn assert_accepted(&self, by: &Library, list: &Honest) {
+        assert_eq!((self.verify(by, list), self.decide(by, list)), (self.accepted(list), 0));
     }
 }

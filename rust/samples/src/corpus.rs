@@ -1,6 +1,9 @@
 //! The seeds of the fuzz targets: calls and sheets, honest and damaged, in the format that `fuzz/target.h`
 //! describes.
 
+mod openings;
+
+use crate::answer::verdict;
 use crate::sheet::{accepted, of_length, Buffers, Shape, GREATEST};
 use crate::{bytes, number_at, points, put, Call, Honest, Name, Part, Random, NAMES, REFERENCE};
 use lomvuze_reference::field::{Element, P};
@@ -17,8 +20,8 @@ pub fn write(folder: &Path, files: Vec<(PathBuf, Vec<u8>)>) -> std::io::Result<(
     Ok(())
 }
 
-/// The files of `fuzz/corpus`. A name starts with the answer: each call has one file at least for each of its
-/// answers.
+/// The files of `fuzz/corpus`. A name starts with the verdict: each call has one file at least for each of its
+/// verdicts.
 pub fn stored() -> Vec<(PathBuf, Vec<u8>)> {
     NAMES.into_iter().flat_map(stored_calls).chain(stored_sheets()).collect()
 }
@@ -58,6 +61,9 @@ fn stored_calls(name: Name) -> Vec<(PathBuf, Vec<u8>)> {
     if name.checks().contains(&13) {
         files.extend(stored_first_inputs(&mut random, name));
     }
+    if name == Name::Verify {
+        files.extend(openings::stored(&mut random));
+    }
     files
 }
 
@@ -84,10 +90,10 @@ fn stored_first_inputs(random: &mut Random, name: Name) -> Vec<(PathBuf, Vec<u8>
     files
 }
 
-/// A call as a file, whose name starts with its answer.
+/// A call as a file, whose name starts with its verdict.
 fn seed(what: &str, call: &Call) -> (PathBuf, Vec<u8>) {
-    let answer = call.clone().run(&REFERENCE);
-    assert_eq!(what.split('-').next(), Some(&answer.to_string()[..]));
+    let verdict = verdict(call.clone().run(&REFERENCE));
+    assert_eq!(what.split('-').next(), Some(&verdict.to_string()[..]));
     (folder(call.name).join(what), input(call))
 }
 

@@ -2,6 +2,7 @@
 
 mod another_witness;
 mod first_input;
+mod opening;
 mod points;
 mod sizes;
 
@@ -97,16 +98,7 @@ impl Call {
     fn fail_claims(&mut self, random: &mut Random, check: u32) {
         match check {
             7 => self.fail_new_item(random),
-            8 => match random.below(4) {
-                0 => self.change_element(random, |part| part == Part::AllOpenings),
-                1 => self.change_root(random),
-                2 => self.change_position(random),
-                _ => {
-                    let at = self.element(random, |part| part == Part::AllOpenings).1;
-                    let at = at + 4 + random.below(self.opening_length() - 4);
-                    self.inputs[4][at] ^= 1 << random.below(8);
-                }
-            },
+            8 => self.fail_openings(random),
             9 => self.show_another_witness(random),
             10 => match random.below(2) {
                 0 => self.change_root(random),
@@ -184,14 +176,6 @@ impl Call {
         let (i, at) = self.element(random, |part| matches!(part, Part::Item | Part::Items));
         let end = (at / self.item_length() + 1) * self.item_length();
         self.inputs[i][end - 1 - random.below(32)] ^= 1 << random.below(8);
-    }
-
-    /// Puts another position below 4k in the place of one.
-    fn change_position(&mut self, random: &mut Random) {
-        let (at, count) = (4 * random.below(self.number('t')), 4 * self.number('k'));
-        let positions = self.first(Part::Positions);
-        let position = number_at(positions, at) as usize + 1 + random.below(count - 1);
-        put(positions, at, (position % count) as u32);
     }
 
     /// The first input that holds a part.

@@ -2,6 +2,7 @@
 //! the bytes that the calls take, whole calls, honest and damaged, by which two implementations are compared, and
 //! sheets.
 
+pub mod answer;
 pub mod batch;
 pub mod call;
 pub mod chain;

@@ -14,7 +14,7 @@ pub struct Library {
     pub fold: fn(u32, u32, u32, u32, u32, In, In, In, In, In, In, Out, Out, Out) -> u32,
     pub open: fn(u32, u32, In, In, In, Out) -> u32,
     pub interleave: fn(u32, u32, u32, In, Out) -> u32,
-    pub verify: fn(u32, u32, u32, u32, u32, u32, In, In, In, In, In) -> u32,
+    pub verify: fn(u32, u32, u32, u32, u32, u32, In, In, In, In, In) -> u64,
     pub decide: fn(u32, u32, u32, In, In, In, In, In, In) -> u32,
 }
 

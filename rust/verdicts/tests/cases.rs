@@ -74,7 +74,7 @@ fn c5_to_c7() {
 
 /// The fold at a challenge that x, w and e combine to with quotient 3: the answers of verifying it, at all positions,
 /// and of deciding it. The items are (1, 6; 2, 3) and (1, 21; 4, 5), both with e 0, of which the second does not hold.
-fn verify_and_decide_c8(a: u32) -> (u32, u32) {
+fn verify_and_decide_c8(a: u32) -> (u64, u32) {
     let number = |value: u64| (value % P as u64) as u32;
     let a_64 = a as u64;
     let (x, w) = (number(6 + 15 * a_64), [number(2 + 2 * a_64), number(3 + 2 * a_64)]);
@@ -94,14 +94,16 @@ fn verify_and_decide_c8(a: u32) -> (u32, u32) {
 }
 
 /// Both calls accept at challenge 2, and deciding refuses at all others that are tried, the least and the greatest
-/// among them. (Value and e differ by a polynomial of degree 2 in the challenge, whose roots are 0 and 2.)
+/// among them. (Value and e differ by a polynomial of degree 2 in the challenge, whose roots are 0 and 2.) Verifying
+/// hashes 24 openings of 7 blocks.
 #[test]
 fn c8() {
+    let accepted = 64 * 24 * 7;
     assert_eq!((decide(6, 36, [6, 7]), decide(18, 51, [8, 9])), (0, 11));
     assert_eq!(decide(21, 51, [8, 9]), 0);
-    assert_eq!(verify_and_decide_c8(2), (0, 0));
+    assert_eq!(verify_and_decide_c8(2), (accepted, 0));
     for a in (3..1000).chain(P - 1000..P) {
-        assert_eq!(verify_and_decide_c8(a), (0, 11), "challenge {a}");
+        assert_eq!(verify_and_decide_c8(a), (accepted, 11), "challenge {a}");
     }
 }
 

@@ -1,5 +1,6 @@
 //! Whole chains by the proved calls: folding an honest list, opening each witness, verifying and deciding all
-//! answer zero, with the bytes that the reference writes. Of the random ones most are lent points.
+//! give the verdict zero, with the bytes that the reference writes, and verifying hashes all openings. Of the random
+//! ones most are lent points.
 
 use lomvuze_reference::field::P;
 use lomvuze_samples::{library, points, Chain, Honest, Library, Random, REFERENCE};
@@ -16,10 +17,10 @@ fn random_positions(random: &mut Random, list: &Honest, most: usize) -> Vec<u32>
     (0..count).map(|_| random.below(4 * list.k as usize) as u32).collect()
 }
 
-/// Folds and opens, by the proved calls; the chain's verifying and deciding answer zero.
+/// Folds and opens, by the proved calls; the chain's verifying and deciding accept.
 fn accepted(list: &Honest, challenge: u32, positions: &[u32]) -> Chain {
     let chain = Chain::new(&PROVED, list, challenge, positions);
-    assert_eq!((chain.verify(&PROVED, list), chain.decide(&PROVED, list)), (0, 0));
+    chain.assert_accepted(&PROVED, list);
     chain
 }
 
@@ -43,7 +44,7 @@ fn chains_of_any_size() {
         let challenge = random_challenge(&mut random, &list);
         let positions = random_positions(&mut random, &list, 256);
         let chain = accepted(&list, challenge, &positions);
-        assert_eq!((chain.verify(&REFERENCE, &list), chain.decide(&REFERENCE, &list)), (0, 0));
+        chain.assert_accepted(&REFERENCE, &list);
     }
 }
 
@@ -61,7 +62,7 @@ fn extreme_chains() {
         let all: Vec<u32> = (0..4 * list.k).collect();
         for challenge in [list.l, P - 1] {
             let chain = accepted(&list, challenge, &all);
-            assert_eq!((chain.verify(&REFERENCE, &list), chain.decide(&REFERENCE, &list)), (0, 0));
+            chain.assert_accepted(&REFERENCE, &list);
         }
     }
 }

@@ -2,8 +2,9 @@
 //! bytes in every buffer after it, and nothing written by a refusal.
 //!
 //! `cargo test --release --offline -p lomvuze-verdicts --test random -- --nocapture` prints how many calls had
-//! which answer.
+//! which verdict.
 
+use lomvuze_samples::answer::{after, verdict};
 use lomvuze_samples::{library, points, Call, Comparison, Honest, Library, Name, Random, NAMES, REFERENCE};
 use lomvuze_verdicts as calls;
 
@@ -13,15 +14,15 @@ const PROVED: Library = library!(calls);
 const CALLS: usize = 20_000;
 const _: () = assert!(CALLS * NAMES.len() >= 100_000);
 
-/// Calls of each name that give each of its answers, at least.
-const EACH_ANSWER: usize = 500;
+/// Calls of each name that give each of its verdicts, at least.
+const EACH_VERDICT: usize = 500;
 
 fn comparison() -> Comparison {
     Comparison::new(&PROVED, &REFERENCE)
 }
 
 fn random_calls(name: Name) {
-    comparison().random_calls(name, CALLS, EACH_ANSWER);
+    comparison().random_calls(name, CALLS, EACH_VERDICT);
 }
 
 #[test]
@@ -94,7 +95,7 @@ fn greatest_elements() {
                     lomvuze_samples::put(&mut call.inputs[i], at, 2013265920);
                 }
             }
-            assert!(![3, 13].contains(&comparison().compare(&call)));
+            assert!(![3, 13].contains(&verdict(comparison().compare(&call))));
         }
     }
 }
@@ -115,7 +116,8 @@ fn inputs_may_overlap() {
         let position = &lomvuze_samples::bytes(&[random.below(4 * k as usize) as u32]);
         let mut opening = vec![0; list.opening_length()];
         assert_eq!((PROVED.open)(k, 1, points, w, position, &mut opening), 0);
-        assert_eq!((PROVED.verify)(m, n, k, 1, 1, 1, item, position, &[], item, &opening.repeat(2)), 0);
+        let answer = (PROVED.verify)(m, n, k, 1, 1, 1, item, position, &[], item, &opening.repeat(2));
+        assert_eq!(answer, after(2, k, 0));
 
         let points = points::built_in(k);
         let [proved, reference] = [PROVED, REFERENCE].map(|by| {

@@ -3,7 +3,7 @@
 use mathlib.Core.Path.{refl}
 use Rattle.hash.specs.Sha256.{H₀}
 use Rattle.hash.proofs.Pad.{zeros-past, last-is}
-use Rattle.hash.proofs.Blocks.{all-blocks}
+use Rattle.hash.proofs.Blocks.{all-blocks, all-counted}
 use borrow.Author.Needs.{needs}
 use Rattle.hash.proofs.digest.Statement.{statement}
 use Rattle.hash.proofs.digest.Tie as tie
@@ -11,8 +11,8 @@ use Rattle.hash.proofs.digest.Tie as tie
 blocks-requires : tie.Need-blocks-requires
 blocks-requires c κs = search needs
 
-mul-start : tie.Need-mul-start
-mul-start c = search needs
+mul-rest : tie.Need-mul-rest
+mul-rest c = search needs
 
 slice-aggregate-copy : tie.Need-slice-aggregate-copy
 slice-aggregate-copy c = search needs
@@ -56,21 +56,25 @@ bytes-requires c κs = search needs
 returns : tie.Need-returns
 unfolding H₀
 returns c =
-    let after-close = c .before .before .before .before in
+    let at-last = c .before .before in
+    let after-close = at-last .before .before .before in
     let after-copy = after-close .before .before .before in
     let at-first = after-copy .before .before .before in
     let at-start = at-first .before .before in
-    all-blocks (at-start .args .msg .now) (at-first .blocks2 .result) (after-close .close .last .0) _ (c .before .blocks3 .result) (c .bytes .result) _
-    (at-first .blocks2 .ensures)
-    (last-is (at-start .args .msg .now) (after-copy .copy .last .0) (after-copy .copy .ensures) _ (after-close .close .last .0) (after-close .close .ensures))
-    refl (c .before .blocks3 .ensures) (c .bytes .ensures)
+    let msg = at-start .args .msg .now in (
+      all-blocks msg (at-first .blocks2 .result .value) (after-close .close .last .0) _ (at-last .blocks3 .result .value) (c .bytes .result) _
+          (at-first .blocks2 .ensures .0)
+          (last-is msg (after-copy .copy .last .0) (after-copy .copy .ensures) _ (after-close .close .last .0) (after-close .close .ensures))
+          refl (at-last .blocks3 .ensures .0) (c .bytes .ensures),
+      all-counted msg (at-first .blocks2 .ensures .1) (at-last .blocks3 .ensures .1),
+    )
 
 pub digest-spec : {M : Type 1} → statement M
 digest-spec =
     tie.close
     (tie.spec
     blocks-requires
-    mul-start
+    mul-rest
     slice-aggregate-copy
     sub-copy
     part-copy-start

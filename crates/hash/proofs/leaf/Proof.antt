@@ -6,7 +6,7 @@ use native.Mathlib.Omega.{arith}
 use lib.ListN.{length}
 use lib.Seq.{length-take-le}
 use borrow.Author.Needs.{needs}
-use Rattle.hash.specs.Sha256.{digest}
+use Rattle.hash.specs.Sha256.{blockCount, digest}
 use Rattle.hash.proofs.Tree.{leaf-message}
 use Rattle.hash.proofs.leaf.Statement.{statement}
 use Rattle.hash.proofs.leaf.Tie as tie
@@ -49,8 +49,8 @@ returns c =
     let after-value = c .before .before .before in
     let after-position = after-value .before .before .before in
     let a = after-position .before .before .before .before .args in
-    c .digest .ensures
-    ∙ ap digest (leaf-message (a .t1) (a .value .now) (after-position .copy .last .0) (after-value .copy2 .last .0) (search needs) (after-position .copy .ensures) (after-value .copy2 .ensures))
+    let message = leaf-message (a .t1) (a .value .now) (after-position .copy .last .0) (after-value .copy2 .last .0) (search needs) (after-position .copy .ensures) (after-value .copy2 .ensures) in
+    (c .digest .ensures .0 ∙ ap digest message, c .digest .ensures .1 ∙ ap blockCount message)
 
 pub leaf-spec : {M : Type 1} → statement M
 leaf-spec =

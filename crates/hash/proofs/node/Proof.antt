@@ -1,7 +1,7 @@
 -- `node` meets its contract: the message is the byte 0x01 and the two digests.
 -- Assumes nothing.
 use mathlib.Core.Path.{ap, _∙_}
-use Rattle.hash.specs.Sha256.{digest}
+use Rattle.hash.specs.Sha256.{blockCount, digest}
 use Rattle.hash.proofs.Tree.{node-message}
 use borrow.Author.Needs.{needs}
 use Rattle.hash.proofs.node.Statement.{statement}
@@ -39,8 +39,8 @@ returns c =
     let after-right = c .before .before .before in
     let after-left = after-right .before .before .before .before in
     let at-start = after-left .before .before .before in
-    c .digest .ensures
-    ∙ ap digest (node-message (at-start .args .t1) (at-start .args .t2) (after-left .copy .last .0) (after-right .copy2 .last .0) (search needs) (search needs) (after-left .copy .ensures) (after-right .copy2 .ensures))
+    let message = node-message (at-start .args .t1) (at-start .args .t2) (after-left .copy .last .0) (after-right .copy2 .last .0) (search needs) (search needs) (after-left .copy .ensures) (after-right .copy2 .ensures) in
+    (c .digest .ensures .0 ∙ ap digest message, c .digest .ensures .1 ∙ ap blockCount message)
 
 pub node-spec : {M : Type 1} → statement M
 node-spec =

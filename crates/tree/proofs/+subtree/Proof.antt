@@ -18,7 +18,7 @@ use Rattle.tree.proofs.subtree.Reads as subtree
 use Rattle.tree.proofs.subtree.Kinds as subtree-kinds
 use Rattle.tree.proofs.+subtree.Lts-subtree as subtree-lts
 use Rattle.tree.proofs.number_leaf.Reads as leaf-reads
-use Rattle.hash.proofs.node.Reads as node-reads
+use Rattle.tree.proofs.node.Reads as node-reads
 use Rattle.tree.proofs.+subtree.{statement}
 use Rattle.tree.proofs.+subtree.Tie.{close}
 

@@ -3,7 +3,7 @@ use borrow.Author.Needs.{needs}
 use mathlib.Core.Path.{ap, _∙_}
 use mathlib.Core.List.{List, _++_}
 use Prim.Native.Nat.{ℕ}
-use Rattle.hash.specs.Sha256.{digest}
+use Rattle.hash.specs.Sha256.{blockCount, digest}
 use Rattle.tree.specs.Merkle.{leafString}
 use Rattle.tree.specs.Entry.{entry}
 use Rattle.tree.proofs.leaf.Statement.{statement}
@@ -18,7 +18,8 @@ leaf-requires c κs = search needs
 returns : tie.Need-returns
 unfolding entry
 returns c =
-    c .leaf .ensures ∙ ap (λ (p : List ℕ). digest (leafString (p ++ c .before .before .before .args .value .now))) (c .before .bytes-of .ensures)
+    let string = ap (λ (p : List ℕ). leafString (p ++ c .before .before .before .args .value .now)) (c .before .bytes-of .ensures) in
+    (c .leaf .ensures .0 ∙ ap digest string, c .leaf .ensures .1 ∙ ap blockCount string)
 
 pub leaf-spec : {M : Type 1} → statement M
 leaf-spec = tie.close (tie.spec bytes-of-requires leaf-requires returns)

@@ -20,8 +20,8 @@ leaf-requires c κs = search needs
 
 returns : tie.Need-returns
 returns c =
-    let after-bytes = c .before .before in
-    c .leaf .ensures ∙ ap (λ (v : List ℕ). digest (leafString (entry (after-bytes .before .args .position) v))) (after-bytes .bytes-of .ensures)
+    let after-bytes = c .before .before .before in
+    c .before .leaf .ensures .0 ∙ ap (λ (v : List ℕ). digest (leafString (entry (after-bytes .before .args .position) v))) (after-bytes .bytes-of .ensures)
 
 pub number-leaf-spec : {M : Type 1} → statement M
 number-leaf-spec =

@@ -14,8 +14,8 @@ below zero h = lit< tt
 below (suc zero) h = lit< tt
 below (suc (suc i)) h = absurd (omega arith)
 
-slice-aggregate-show-digest : tie.Need-slice-aggregate-show-digest
-slice-aggregate-show-digest c = search needs
+slice-aggregate-show-hashed : tie.Need-slice-aggregate-show-hashed
+slice-aggregate-show-hashed c = search needs
 
 slice-aggregate-digest : tie.Need-slice-aggregate-digest
 slice-aggregate-digest c = search needs
@@ -23,11 +23,11 @@ slice-aggregate-digest c = search needs
 digest-requires : tie.Need-digest-requires
 digest-requires c κs = search needs
 
-show-digest-requires : tie.Need-show-digest-requires
-show-digest-requires c κs = search needs
+show-hashed-requires : tie.Need-show-hashed-requires
+show-hashed-requires c κs = search needs
 
-slice-aggregate-show-digest-2 : tie.Need-slice-aggregate-show-digest-2
-slice-aggregate-show-digest-2 c = search needs
+slice-aggregate-show-hashed-2 : tie.Need-slice-aggregate-show-hashed-2
+slice-aggregate-show-hashed-2 c = search needs
 
 slice-aggregate-digest-2 : tie.Need-slice-aggregate-digest-2
 slice-aggregate-digest-2 c = search needs
@@ -35,11 +35,11 @@ slice-aggregate-digest-2 c = search needs
 digest-requires-2 : tie.Need-digest-requires-2
 digest-requires-2 c κs = search needs
 
-show-digest-requires-2 : tie.Need-show-digest-requires-2
-show-digest-requires-2 c κs = search needs
+show-hashed-requires-2 : tie.Need-show-hashed-requires-2
+show-hashed-requires-2 c κs = search needs
 
-slice-aggregate-show-digest-3 : tie.Need-slice-aggregate-show-digest-3
-slice-aggregate-show-digest-3 c = search needs
+slice-aggregate-show-hashed-3 : tie.Need-slice-aggregate-show-hashed-3
+slice-aggregate-show-hashed-3 c = search needs
 
 slice-aggregate-digest-3 : tie.Need-slice-aggregate-digest-3
 slice-aggregate-digest-3 c = search needs
@@ -47,8 +47,8 @@ slice-aggregate-digest-3 c = search needs
 digest-requires-3 : tie.Need-digest-requires-3
 digest-requires-3 c κs = search needs
 
-show-digest-requires-3 : tie.Need-show-digest-requires-3
-show-digest-requires-3 c κs = search needs
+show-hashed-requires-3 : tie.Need-show-hashed-requires-3
+show-hashed-requires-3 c κs = search needs
 
 slice-aggregate-leaf : tie.Need-slice-aggregate-leaf
 slice-aggregate-leaf c = search needs
@@ -62,29 +62,29 @@ slice-aggregate-leaf-2 c = search needs
 leaf-requires-2 : tie.Need-leaf-requires-2
 leaf-requires-2 c κs = search needs
 
-slice-aggregate-show-digest-4 : tie.Need-slice-aggregate-show-digest-4
-slice-aggregate-show-digest-4 c = search needs
+slice-aggregate-show-hashed-4 : tie.Need-slice-aggregate-show-hashed-4
+slice-aggregate-show-hashed-4 c = search needs
 
-show-digest-requires-4 : tie.Need-show-digest-requires-4
-show-digest-requires-4 c κs = search needs
+show-hashed-requires-4 : tie.Need-show-hashed-requires-4
+show-hashed-requires-4 c κs = search needs
 
-slice-aggregate-show-digest-5 : tie.Need-slice-aggregate-show-digest-5
-slice-aggregate-show-digest-5 c = search needs
+slice-aggregate-show-hashed-5 : tie.Need-slice-aggregate-show-hashed-5
+slice-aggregate-show-hashed-5 c = search needs
 
-show-digest-requires-5 : tie.Need-show-digest-requires-5
-show-digest-requires-5 c κs = search needs
+show-hashed-requires-5 : tie.Need-show-hashed-requires-5
+show-hashed-requires-5 c κs = search needs
 
-slice-aggregate-show-digest-6 : tie.Need-slice-aggregate-show-digest-6
-slice-aggregate-show-digest-6 c = search needs
+slice-aggregate-show-hashed-6 : tie.Need-slice-aggregate-show-hashed-6
+slice-aggregate-show-hashed-6 c = search needs
 
 node-requires : tie.Need-node-requires
 node-requires c κs = search needs
 
-show-digest-requires-6 : tie.Need-show-digest-requires-6
-show-digest-requires-6 c κs = search needs
+show-hashed-requires-6 : tie.Need-show-hashed-requires-6
+show-hashed-requires-6 c κs = search needs
 
-slice-aggregate-show-digest-7 : tie.Need-slice-aggregate-show-digest-7
-slice-aggregate-show-digest-7 c = search needs
+slice-aggregate-show-digest : tie.Need-slice-aggregate-show-digest
+slice-aggregate-show-digest c = search needs
 
 slice-aggregate-root : tie.Need-slice-aggregate-root
 slice-aggregate-root c = search needs
@@ -92,8 +92,8 @@ slice-aggregate-root c = search needs
 root-requires : tie.Need-root-requires
 root-requires c κs = search needs
 
-show-digest-requires-7 : tie.Need-show-digest-requires-7
-show-digest-requires-7 c κs = search needs
+show-digest-requires : tie.Need-show-digest-requires
+show-digest-requires c κs = search needs
 
 slice-aggregate-show-numbers : tie.Need-slice-aggregate-show-numbers
 slice-aggregate-show-numbers c = search needs
@@ -144,33 +144,33 @@ pub main-spec : {M : Type 1} → statement M
 main-spec =
     tie.close
     (tie.spec
-    slice-aggregate-show-digest
+    slice-aggregate-show-hashed
     slice-aggregate-digest
     digest-requires
-    show-digest-requires
-    slice-aggregate-show-digest-2
+    show-hashed-requires
+    slice-aggregate-show-hashed-2
     slice-aggregate-digest-2
     digest-requires-2
-    show-digest-requires-2
-    slice-aggregate-show-digest-3
+    show-hashed-requires-2
+    slice-aggregate-show-hashed-3
     slice-aggregate-digest-3
     digest-requires-3
-    show-digest-requires-3
+    show-hashed-requires-3
     slice-aggregate-leaf
     leaf-requires
     slice-aggregate-leaf-2
     leaf-requires-2
-    slice-aggregate-show-digest-4
-    show-digest-requires-4
-    slice-aggregate-show-digest-5
-    show-digest-requires-5
-    slice-aggregate-show-digest-6
+    slice-aggregate-show-hashed-4
+    show-hashed-requires-4
+    slice-aggregate-show-hashed-5
+    show-hashed-requires-5
+    slice-aggregate-show-hashed-6
     node-requires
-    show-digest-requires-6
-    slice-aggregate-show-digest-7
+    show-hashed-requires-6
+    slice-aggregate-show-digest
     slice-aggregate-root
     root-requires
-    show-digest-requires-7
+    show-digest-requires
     slice-aggregate-show-numbers
     add-requires
     sub-requires

@@ -5,7 +5,8 @@ use super::witnesses::in_order;
 use crate::buffers::{circuit_buffers, items_buffer, numbers_buffer, output, witnesses_buffer};
 use crate::refusal::accepted;
 use crate::{
-    Challenge, Circuit, Folded, Item, Opening, Points, Positions, Quotient, Refusal, Sizes, Witness, MAX_L,
+    Challenge, Circuit, Folded, Item, Opening, Points, Positions, Quotient, Refusal, Sizes, Verified,
+    Witness, MAX_L,
 };
 use lomvuze_verdicts as library;
 use std::slice::from_ref;
@@ -151,15 +152,15 @@ pub fn fold(
     })
 }
 
-/// Verifies a fold of up to 8 items. It sees neither circuit nor witness: only together with
-/// [`decide`](crate::decide) of the same new item it is a verdict.
+/// Verifies a fold of up to 8 items, and counts the SHA-256 blocks that this takes: see [`Verified`]. It sees neither
+/// circuit nor witness: only together with [`decide`](crate::decide) of the same new item it is a verdict on the items.
 ///
 /// `openings` has, for each item and last for the new item, what [`open`](crate::open) returned for its witness at
 /// the positions.
 ///
 /// # Errors
 ///
-/// The first of these checks that fails:
+/// The verdict is the first of these checks that fails:
 /// - [`Refusal::Sizes`], also where there are not openings of each item and the new one at each position
 /// - [`Refusal::Element`]
 /// - [`Refusal::FirstInput`], of every item but the new one
@@ -172,7 +173,7 @@ pub fn fold(
 /// # Example
 ///
 /// ```
-/// use lomvuze::{cast, fold, open, verify};
+/// use lomvuze::{cast, fold, open, verify, Verified};
 /// use lomvuze::{Challenge, Circuit, Folded, Points, Positions, PublicInputs, Refusal, Sizes, Witness, R};
 ///
 /// fn main() -> Result<(), Refusal> {
@@ -188,11 +189,14 @@ pub fn fold(
 ///     let positions = Positions::from([1, 5]);
 ///     let mut openings =
 ///         [open(2, &points, &witness, &positions)?, open(2, &points, &new_witness, &positions)?];
-///     verify(sizes, challenge, &items, &positions, &quotient, &item, &openings)?;
+///     let verified = verify(sizes, challenge, &items, &positions, &quotient, &item, &openings);
+///     assert_eq!(verified, Verified { verdict: Ok(()), blocks: 28 });
+///     assert_eq!(verified.blocks, sizes.verify_blocks(1, 2));
 ///
+///     // The openings of position 1 are hashed, and then the item's at position 5, which is refused.
 ///     openings[0][1].value += 1;
 ///     let changed = verify(sizes, challenge, &items, &positions, &quotient, &item, &openings);
-///     assert_eq!(changed, Err(Refusal::Opening));
+///     assert_eq!(changed, Verified { verdict: Err(Refusal::Opening), blocks: 3 * 7 });
 ///     Ok(())
 /// }
 /// ```
@@ -204,12 +208,13 @@ pub fn verify(
     quotient: &Quotient,
     new_item: &Item,
     openings: &[impl AsRef<[Opening]>],
-) -> Result<(), Refusal> {
+) -> Verified {
     let Sizes { m, n, k } = sizes;
     let (l, t, at) = (count(items), count(positions), challenge.into());
     let (items, new_item) = (items_buffer(sizes, items), items_buffer(sizes, from_ref(new_item)));
     // Openings that cannot be put in order fail check 2 here too, as an empty buffer.
     let openings = in_order(k, l, t, openings).unwrap_or_default();
     let (positions, quotient) = (numbers_buffer(positions), numbers_buffer(quotient));
-    accepted(library::verify(m, n, k, l, t, at, &items, &positions, &quotient, &new_item, &openings))
+    let answer = library::verify(m, n, k, l, t, at, &items, &positions, &quotient, &new_item, &openings);
+    Verified::from_answer(answer)
 }

@@ -3,7 +3,8 @@
 use crate::longest::longest_buffer;
 use lomvuze::{cast, decide, encode, fold, interleave, open, quotient, verify};
 use lomvuze::{
-    Challenge, Circuit, Folded, Item, Opening, Points, Positions, PublicInputs, Refusal, Sizes, Witness, R,
+    Challenge, Circuit, Folded, Item, Opening, Points, Positions, PublicInputs, Refusal, Sizes, Verified,
+    Witness, R,
 };
 
 /// A fold of two items with m = 1, n = 2, k = 4 and t = 3, with lent points and all else that a call takes. The circuit has no
@@ -67,9 +68,14 @@ impl Arguments {
         interleave(self.sizes.k, &self.openings).map(drop)
     }
 
+    /// The verdict. Where it accepts, nine openings of nine blocks each are hashed, and where check 2 refuses none.
     pub fn verify(&self) -> Result<(), Refusal> {
+        let Arguments { sizes, items, positions, openings, .. } = self;
         let Folded { quotient, item, .. } = &self.folded;
-        verify(self.sizes, Challenge::from(100), &self.items, &self.positions, quotient, item, &self.openings)
+        let Verified { verdict, blocks } =
+            verify(*sizes, Challenge::from(100), items, positions, quotient, item, openings);
+        assert_eq!(blocks, if verdict.is_ok() { 81 } else { 0 });
+        verdict
     }
 
     pub fn decide(&self) -> Result<(), Refusal> {
@@ -93,18 +99,18 @@ pub const CALLS: [Call; 8] = [
 /// No call here may ask for more. Where sizes or lists are very long, a buffer for them would be longer.
 pub const MOST: usize = 256 * 1024;
 
-/// The answer of a call, which may ask for no long buffer: 0, or the number of a check.
-pub fn answer(call: impl FnOnce() -> Result<(), Refusal>) -> u32 {
-    let (longest, answer) = longest_buffer(call);
+/// The verdict of a call, which may ask for no long buffer: 0, or the number of a check.
+pub fn verdict(call: impl FnOnce() -> Result<(), Refusal>) -> u32 {
+    let (longest, result) = longest_buffer(call);
     assert!(longest <= MOST, "{longest} bytes in one buffer");
-    answer.map_or_else(Refusal::number, |()| 0)
+    result.map_or_else(Refusal::number, |()| 0)
 }
 
-/// The answers of the eight calls after a change.
-pub fn answers(change: impl Fn(&mut Arguments)) -> [u32; 8] {
+/// The verdicts of the eight calls after a change.
+pub fn verdicts(change: impl Fn(&mut Arguments)) -> [u32; 8] {
     let mut arguments = Arguments::new().unwrap();
     change(&mut arguments);
-    CALLS.map(|call| answer(|| call(&arguments)))
+    CALLS.map(|call| verdict(|| call(&arguments)))
 }
 
 /// Changes a list of numbers as a vector.

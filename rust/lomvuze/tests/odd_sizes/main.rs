@@ -6,12 +6,12 @@ mod arguments;
 mod lists;
 mod longest;
 
-use arguments::{answer, answers, change, Arguments};
+use arguments::{change, verdict, verdicts, Arguments};
 use lomvuze::{read_sheet, Opening, Sizes};
 
 #[test]
 fn all_are_accepted_before_a_change() {
-    assert_eq!(answers(|_| ()), [0; 8]);
+    assert_eq!(verdicts(|_| ()), [0; 8]);
 }
 
 // ---- Sizes that are not permitted, or not those of the buffers
@@ -19,16 +19,16 @@ fn all_are_accepted_before_a_change() {
 #[test]
 fn sizes() {
     for k in [0, 1, 2, 3, 5, 8, 64, 65, 128, 1 << 16, 1 << 30, 1 << 31, u32::MAX] {
-        assert_eq!(answers(|all| all.sizes.k = k), [2; 8], "k = {k}");
+        assert_eq!(verdicts(|all| all.sizes.k = k), [2; 8], "k = {k}");
     }
     for m in [0, 2, 6, 7, 31, 32, 63, 64, 1 << 30, u32::MAX] {
-        assert_eq!(answers(|all| all.sizes.m = m), [0, 2, 2, 2, 0, 0, 2, 2], "m = {m}");
+        assert_eq!(verdicts(|all| all.sizes.m = m), [0, 2, 2, 2, 0, 0, 2, 2], "m = {m}");
     }
     for n in [0, 1, 3, 64, 65, 1 << 30, u32::MAX] {
-        assert_eq!(answers(|all| all.sizes.n = n), [0, 2, 2, 2, 0, 0, 2, 2], "n = {n}");
+        assert_eq!(verdicts(|all| all.sizes.n = n), [0, 2, 2, 2, 0, 0, 2, 2], "n = {n}");
     }
     for size in [0, u32::MAX] {
-        assert_eq!(answers(|all| all.sizes = Sizes { m: size, n: size, k: size }), [2; 8]);
+        assert_eq!(verdicts(|all| all.sizes = Sizes { m: size, n: size, k: size }), [2; 8]);
     }
 }
 
@@ -46,7 +46,7 @@ fn fitting_lists() {
             all.positions = [0; 256].into();
             all.openings = vec![vec![opening; 256]; 3];
         };
-        assert_eq!(answers(changed), [2; 8], "k = {k}");
+        assert_eq!(verdicts(changed), [2; 8], "k = {k}");
     }
     for m in [7, 64, 1 << 18] {
         let changed = |all: &mut Arguments| {
@@ -58,7 +58,7 @@ fn fitting_lists() {
             }
             change(&mut all.folded.quotient, |numbers| numbers.resize(m as usize + 1, 0));
         };
-        assert_eq!(answers(changed), [0, 2, 2, 2, 0, 0, 2, 2], "m = {m}");
+        assert_eq!(verdicts(changed), [0, 2, 2, 2, 0, 0, 2, 2], "m = {m}");
     }
     for n in [0, 65, 1 << 18] {
         let changed = |all: &mut Arguments| {
@@ -69,7 +69,7 @@ fn fitting_lists() {
                 change(x, |numbers| numbers.resize(n as usize, 1));
             }
         };
-        assert_eq!(answers(changed), [0, 2, 2, 2, 0, 0, 2, 2], "n = {n}");
+        assert_eq!(verdicts(changed), [0, 2, 2, 2, 0, 0, 2, 2], "n = {n}");
     }
     for t in [0, 17, 257, 1 << 12] {
         let changed = |all: &mut Arguments| {
@@ -77,7 +77,7 @@ fn fitting_lists() {
             change(&mut all.positions, |numbers| numbers.resize(t, 0));
             all.openings.iter_mut().for_each(|of_one| of_one.resize(t, opening.clone()));
         };
-        assert_eq!(answers(changed), [0, 0, 0, 0, 2, 2, 2, 0], "t = {t}");
+        assert_eq!(verdicts(changed), [0, 0, 0, 0, 2, 2, 2, 0], "t = {t}");
     }
 }
 
@@ -88,7 +88,7 @@ fn sheets() {
     let sheet = |sizes: [u32; 3], pairs: u32| {
         let [m, n, k] = sizes;
         let root = "0".repeat(64);
-        answer(|| {
+        verdict(|| {
             let text = format!("size\t{m}\t{n}\t{k}\nitem\t0\t1\t{root}\nwit\t0\t0\nend\t{pairs}\n");
             read_sheet(text.as_bytes()).map(drop)
         })
@@ -103,5 +103,5 @@ fn sheets() {
         assert_eq!(sheet([0, 1, 2], pairs), 2, "{pairs}");
     }
     let long = vec![b'\n'; 1 << 24];
-    assert_eq!(answer(|| read_sheet(&long).map(drop)), 1);
+    assert_eq!(verdict(|| read_sheet(&long).map(drop)), 1);
 }

@@ -2,12 +2,12 @@
 //!
 //! What cannot be said to the crate's calls is answered here, as check 2 does: an input that is no whole
 //! numbers, entries, items, witnesses or openings; l or t that is not the count of items or positions; and
-//! the length of an output buffer.
+//! the length of an output buffer. Verifying answers verdict and blocks in one number, as the library does.
 
 #![allow(clippy::too_many_arguments)]
 
 use crate::layout::*;
-use lomvuze::{Opening, Positions, Sizes};
+use lomvuze::{Opening, Positions, Sizes, Verified};
 use lomvuze_samples::bytes;
 
 pub fn encode(k: u32, points: &[u8], w: &[u8], code_out: &mut [u8], root_out: &mut [u8]) -> u32 {
@@ -133,15 +133,20 @@ pub fn verify(
     quotient: &[u8],
     new_item: &[u8],
     openings_in: &[u8],
-) -> u32 {
-    answer(|| {
+) -> u64 {
+    let mut hashed = 0;
+    let verdict = answer(|| {
         let sizes = Sizes { m, n, k };
         let (items, positions): (_, Positions) = (items(sizes, l, items_in)?, numbers(positions)?);
         check_2(positions.len() == t as usize)?;
         let (quotient, new_item) = (numbers(quotient)?, item(sizes, new_item)?);
         let openings = by_item(l, openings(sizes, openings_in)?);
-        lomvuze::verify(sizes, challenge.into(), &items, &positions, &quotient, &new_item, &openings)
-    })
+        let Verified { verdict, blocks } =
+            lomvuze::verify(sizes, challenge.into(), &items, &positions, &quotient, &new_item, &openings);
+        hashed = blocks;
+        verdict
+    });
+    64 * hashed + verdict as u64
 }
 
 pub fn decide(

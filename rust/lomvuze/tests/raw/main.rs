@@ -1,8 +1,8 @@
 //! The crate's calls beside the library's own, on random calls and sheets, honest and damaged, and at the edges
 //! of the checks: the same answers, and the same bytes.
 //!
-//! `cargo test --release --offline -p lomvuze --test raw -- --nocapture` prints how many calls and sheets had
-//! which answer.
+//! `cargo test --release --offline -p lomvuze --test raw -- --nocapture` prints how many calls had which verdict, and how
+//! many sheets which answer.
 
 use lomvuze::{Sizes, MAX_SHEET};
 use lomvuze_reference::sheet::{write, Reading};
@@ -29,7 +29,7 @@ fn comparison() -> Comparison {
     Comparison::new(&CRATE, &LIBRARY)
 }
 
-/// 3,000 calls of each name, of which 50 at least give each answer.
+/// 3,000 calls of each name, of which 50 at least give each verdict.
 #[test]
 fn random_calls() {
     for name in NAMES {
@@ -66,6 +66,28 @@ fn lengths() {
         assert_eq!(sizes.witness_bytes(), chain.new_witness.len());
         assert_eq!(sizes.quotient_bytes(l), chain.quotient.len());
         assert_eq!(sizes.all_openings_bytes(l, 3), chain.openings.len());
+    }
+}
+
+/// The blocks that sizes give are those that an accepted fold takes; outside the limits there are none.
+#[test]
+fn blocks() {
+    let mut random = Random::new(5);
+    for k in [2, 4, 8, 16, 32, 64] {
+        let sizes = Sizes { m: 1, n: 2, k };
+        for l in [1, 2, 5, 8] {
+            let list = Honest::random(&mut random, 1, 2, k, l);
+            for t in [1, 4 * k] {
+                let chain = Chain::new(&LIBRARY, &list, l, &vec![k; t as usize]);
+                let planned = sizes.verify_blocks(l as usize, t as usize);
+                assert_eq!(chain.verify(&CRATE, &list), 64 * planned, "k = {k}, l = {l}, t = {t}");
+            }
+        }
+        let counts = [(0, 1), (9, 1), (1, 0), (1, 4 * k as usize + 1), (usize::MAX, usize::MAX)];
+        assert!(counts.iter().all(|(l, t)| sizes.verify_blocks(*l, *t) == 0), "k = {k}");
+    }
+    for k in [0, 1, 3, 63, 65, 128, 1 << 31, u32::MAX] {
+        assert_eq!(Sizes { m: 1, n: 2, k }.verify_blocks(1, 1), 0, "k = {k}");
     }
 }
 

@@ -62,7 +62,7 @@ pub fn quotient(
     witnesses_in: &[u8],
     quotient_out: &mut [u8],
 ) -> u32 {
-    answer(|| {
+    verdict(|| {
         let (m, n, k, l) = (size_m(m)?, size_n(n)?, size_k(k)?, size_l(l)?);
         points_length(points, k)?;
         entry_counts([a, b, c])?;
@@ -96,7 +96,7 @@ pub fn fold(
     item_out: &mut [u8],
     witness_out: &mut [u8],
 ) -> u32 {
-    answer(|| {
+    verdict(|| {
         let (m, n, k, l) = (size_m(m)?, size_n(n)?, size_k(k)?, size_l(l)?);
         points_length(points, k)?;
         entry_counts([a, b, c])?;
@@ -122,7 +122,7 @@ pub fn fold(
 }
 
 /// Verifies a fold of l items at t positions. Checks 2, 3, 13 (over the l items; the new one's x is check 7's), and 5
-/// to 9.
+/// to 9. Returns 64 times the number of SHA-256 blocks that were processed up to the verdict, plus the verdict.
 pub fn verify(
     m: u32,
     n: u32,
@@ -135,8 +135,9 @@ pub fn verify(
     quotient: &[u8],
     new_item: &[u8],
     openings_in: &[u8],
-) -> u32 {
-    answer(|| {
+) -> u64 {
+    let mut blocks = 0;
+    let verdict = verdict(|| {
         let (m, n, k, l) = (size_m(m)?, size_n(n)?, size_k(k)?, size_l(l)?);
         let t = size_t(t, k)?;
         length(items_in, l * item_length(m, n))?;
@@ -154,21 +155,38 @@ pub fn verify(
         let challenge = check_challenge(challenge, l)?;
         let positions = check_positions(positions, k)?;
 
-        check(7, claims::fold_claim(&items, &quotient, challenge) == (new.r, new.x, new.e))?;
-
-        // Openings lie position by position and, within one, item by item, the new item last.
         let roots: Vec<Digest> = items.iter().map(|item| item.root).chain([new.root]).collect();
-        for (position, shown) in positions.iter().zip(openings.chunks(l + 1)) {
-            for (opening, root) in shown.iter().zip(&roots) {
-                let entry = code::entry(*position, opening.value);
-                check(8, tree::leads_to(&entry, *position, &opening.path) == *root)?;
-            }
-        }
+        check(7, claims::fold_claim(&items, &quotient, challenge) == (new.r, new.x, new.e))?;
+        check_openings(&roots, &positions, &openings, &mut blocks)?;
+        check_values(l, challenge, &openings)
+    });
+    64 * blocks + verdict as u64
+}
 
-        for shown in openings.chunks(l + 1) {
-            let values: Vec<Element> = shown.iter().map(|opening| opening.value).collect();
-            check(9, claims::combine_at(&values[..l], challenge) == values[l])?;
+/// 8: every opening leads to its root. They lie position by position and, within one, item by item, the new item
+/// last, and are hashed in this order, each of them whole, up to the first that fails.
+fn check_openings(
+    roots: &[Digest],
+    positions: &[usize],
+    openings: &[Opening],
+    blocks: &mut u64,
+) -> Result<(), Refusal> {
+    for (position, shown) in positions.iter().zip(openings.chunks(roots.len())) {
+        for (opening, root) in shown.iter().zip(roots) {
+            let entry = code::entry(*position, opening.value);
+            let led = tree::leads_to(&entry, *position, &opening.path);
+            *blocks += led.blocks;
+            check(8, led.digest == *root)?;
         }
-        Ok(())
-    })
+    }
+    Ok(())
+}
+
+/// 9: at every position, the new opened value is the combination of the items' opened values.
+fn check_values(l: usize, challenge: Element, openings: &[Opening]) -> Result<(), Refusal> {
+    for shown in openings.chunks(l + 1) {
+        let values: Vec<Element> = shown.iter().map(|opening| opening.value).collect();
+        check(9, claims::combine_at(&values[..l], challenge) == values[l])?;
+    }
+    Ok(())
 }

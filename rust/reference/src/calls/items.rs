@@ -22,7 +22,7 @@ pub fn cast(
     w: &[u8],
     item_out: &mut [u8],
 ) -> u32 {
-    answer(|| {
+    verdict(|| {
         let (m, n, k) = (size_m(m)?, size_n(n)?, size_k(k)?);
         points_length(points, k)?;
         entry_counts([a, b, c])?;
@@ -58,7 +58,7 @@ pub fn decide(
     item_in: &[u8],
     witness: &[u8],
 ) -> u32 {
-    answer(|| {
+    verdict(|| {
         let (m, n, k) = (size_m(m)?, size_n(n)?, size_k(k)?);
         points_length(points, k)?;
         entry_counts([a, b, c])?;

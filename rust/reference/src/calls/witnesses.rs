@@ -5,7 +5,7 @@ use crate::code;
 
 /// Writes the codeword of a witness and its root. Checks 2, 3 and 12.
 pub fn encode(k: u32, points: &[u8], w: &[u8], code_out: &mut [u8], root_out: &mut [u8]) -> u32 {
-    answer(|| {
+    verdict(|| {
         let k = size_k(k)?;
         points_length(points, k)?;
         length(w, 4 * k)?;
@@ -23,7 +23,7 @@ pub fn encode(k: u32, points: &[u8], w: &[u8], code_out: &mut [u8], root_out: &m
 
 /// Writes the openings of t positions of a witness's codeword. Checks 2, 3, 12 and 6.
 pub fn open(k: u32, t: u32, points: &[u8], w: &[u8], positions: &[u8], openings_out: &mut [u8]) -> u32 {
-    answer(|| {
+    verdict(|| {
         let k = size_k(k)?;
         let t = size_t(t, k)?;
         points_length(points, k)?;
@@ -45,7 +45,7 @@ pub fn open(k: u32, t: u32, points: &[u8], w: &[u8], positions: &[u8], openings_
 /// Writes the openings of l items and the new one, which stand one witness after the other, the new one last, in
 /// the order in which verifying takes them: position by position and, within one, item by item. Check 2.
 pub fn interleave(k: u32, l: u32, t: u32, opened: &[u8], openings_out: &mut [u8]) -> u32 {
-    answer(|| {
+    verdict(|| {
         let (k, l) = (size_k(k)?, size_l(l)?);
         let t = size_t(t, k)?;
         length(opened, (l + 1) * t * opening_length(k))?;

@@ -9,7 +9,8 @@ use borrow.Author.Needs.{needs}
 use borrow.Author.Tests.{not-true, not-false}
 use Rattle.theory.specs.Checks.{every}
 use Rattle.theory.specs.Sizes.{before}
-use Rattle.checks.proofs.Laws.{every-none, every-more, every-fails, every-all}
+use Rattle.theory.proofs.CheckLaws.{every-fails}
+use Rattle.checks.proofs.Laws.{every-none, every-more, every-all}
 use Rattle.checks.proofs.order.entries_ascending.Statement.{statement}
 use Rattle.checks.proofs.order.entries_ascending.Tie as tie
 

@@ -7,7 +7,8 @@ use borrow.Author.Needs.{needs}
 use borrow.Author.Tests.{not-true, not-false}
 use Rattle.theory.specs.Checks.{every}
 use Rattle.theory.specs.Sizes.{inside}
-use Rattle.checks.proofs.Laws.{every-none, every-more, every-fails, every-all}
+use Rattle.theory.proofs.CheckLaws.{every-fails}
+use Rattle.checks.proofs.Laws.{every-none, every-more, every-all}
 use Rattle.checks.proofs.order.entries_inside.Statement.{statement}
 use Rattle.checks.proofs.order.entries_inside.Tie as tie
 

@@ -17,8 +17,8 @@ leaf-requires c κs =
 
 returns-2 : tie.Need-returns-2
 returns-2 c = (
-  accepted (leb (length (c .before .before .before .before .args .value .now)) 16) refl (c .before .before .if1 .left),
-  c .leaf .ensures,
+  accepted (leb (length (c .before .before .before .before .before .args .value .now)) 16) refl (c .before .before .before .if1 .left),
+  c .before .leaf .ensures .0,
 )
 
 pub lomvuze-test-leaf-spec : {M : Type 1} → statement M

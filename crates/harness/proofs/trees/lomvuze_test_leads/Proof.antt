@@ -26,9 +26,9 @@ opening-root-requires c κs =
 
 returns-2 : tie.Need-returns-2
 returns-2 c =
-    let a = c .before .before .before .before .args in (
-      accepted (openedPermitted (a .depth) (length (a .opening .now))) (c .before .before .opened-permitted .ensures) (c .before .if1 .left),
-      c .opening-root .ensures,
+    let a = c .before .before .before .before .before .args in (
+      accepted (openedPermitted (a .depth) (length (a .opening .now))) (c .before .before .before .opened-permitted .ensures) (c .before .before .if1 .left),
+      c .before .opening-root .ensures .0,
     )
 
 pub lomvuze-test-leads-spec : {M : Type 1} → statement M

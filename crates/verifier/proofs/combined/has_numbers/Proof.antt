@@ -9,7 +9,8 @@ use lib.Dec.{eqb}
 use lib.ListN.{length, getD}
 use Rattle.theory.specs.Checks.{every}
 use Rattle.theory.specs.Buffers.{numberAt}
-use Rattle.checks.proofs.Laws.{every-none, every-more, every-fails, every-all}
+use Rattle.theory.proofs.CheckLaws.{every-fails}
+use Rattle.checks.proofs.Laws.{every-none, every-more, every-all}
 use Rattle.verifier.proofs.combined.has_numbers.Statement.{statement}
 use Rattle.verifier.proofs.combined.has_numbers.Tie as tie
 

@@ -20,7 +20,9 @@ same-requires : tie.Need-same-requires
 same-requires c κs = search needs
 
 returns : tie.Need-returns
-returns c = same-strings _ _ (c .before .before .before .before .opening-root .ensures) (c .before .before .before .root-at .ensures) (c .same .ensures)
+returns c =
+    let hashed = c .before .before .before .before .before .opening-root in
+    (same-strings _ _ (hashed .ensures .0) (c .before .before .before .root-at .ensures) (c .same .ensures), hashed .ensures .1)
 
 pub opening-leads-spec : {M : Type 1} → statement M
 opening-leads-spec =

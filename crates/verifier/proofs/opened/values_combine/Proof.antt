@@ -8,7 +8,8 @@ use native.Mathlib.Omega.{arith}
 use borrow.Author.Tests.{eq-eqb, ne-eqb}
 use lib.ListN.{length}
 use Rattle.theory.specs.Checks.{every}
-use Rattle.checks.proofs.Laws.{every-none, every-more, every-fails, every-all}
+use Rattle.theory.proofs.CheckLaws.{every-fails}
+use Rattle.checks.proofs.Laws.{every-none, every-more, every-all}
 use Rattle.verifier.specs.Verifying.{valueCombines}
 use Rattle.verifier.proofs.Places.{numbers-within, next-first}
 use Rattle.verifier.proofs.Leading.{combines-is}

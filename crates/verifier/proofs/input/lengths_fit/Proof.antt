@@ -1,10 +1,10 @@
--- `verify::lengths_fit` meets its contract.
+-- `input::lengths_fit` meets its contract.
 use native.Mathlib.Omega.{arith}
 use borrow.Author.Needs.{needs}
 use Rattle.checks.proofs.Listed.{items-few}
 use Rattle.verifier.proofs.Counting.{t-few, depth-few, quotient-few, openings-few, openings-size-few, lengths-are}
-use Rattle.verifier.proofs.verify.lengths_fit.Statement.{statement}
-use Rattle.verifier.proofs.verify.lengths_fit.Tie as tie
+use Rattle.verifier.proofs.input.lengths_fit.Statement.{statement}
+use Rattle.verifier.proofs.input.lengths_fit.Tie as tie
 
 size-requires : tie.Need-size-requires
 size-requires c κs = search needs

@@ -1,4 +1,4 @@
--- `verify::numbers_below` meets its contract, buffer by buffer.
+-- `input::numbers_below` meets its contract, buffer by buffer.
 use mathlib.Core.Path.{sym, ap, ap₂, _∙_}
 use mathlib.Core.Bool.{_&&_}
 use Prim.Native.Nat.{ℕ, _*_}
@@ -6,8 +6,8 @@ use native.Mathlib.Omega.{arith}
 use Rattle.checks.proofs.ListLaws.{items-below-read}
 use Rattle.verifier.proofs.Counting.{depth-few, openings-length, openings-are-below}
 use borrow.Author.Needs.{needs}
-use Rattle.verifier.proofs.verify.numbers_below.Statement.{statement}
-use Rattle.verifier.proofs.verify.numbers_below.Tie as tie
+use Rattle.verifier.proofs.input.numbers_below.Statement.{statement}
+use Rattle.verifier.proofs.input.numbers_below.Tie as tie
 
 add-count : tie.Need-add-count
 add-count c = search needs

@@ -1,4 +1,4 @@
--- `verify::fits` meets its contract.
+-- `input::fits` meets its contract.
 use mathlib.Core.Path.{_≡_}
 use mathlib.Core.Bool.{true, _&&_}
 use native.Mathlib.Omega.{arith}
@@ -8,8 +8,8 @@ use Rattle.checks.proofs.Calls.{passed}
 use Rattle.checks.proofs.Listed.{sized, first-passes}
 use Rattle.verifier.proofs.Counting.{counts-fit, sizes-refused, positions-refused, lengths-decide}
 use borrow.Author.Needs.{needs}
-use Rattle.verifier.proofs.verify.fits.Statement.{statement}
-use Rattle.verifier.proofs.verify.fits.Tie as tie
+use Rattle.verifier.proofs.input.fits.Statement.{statement}
+use Rattle.verifier.proofs.input.fits.Tie as tie
 
 -- The sizes and the count of items are permitted.
 allowed : (c : tie.Else1) → (let a = c .before .before .before .before .before .before .before .before .args in (sizes (a .m) (a .n) (a .k) && itemCountFits (a .l)) ≡ true)
