@@ -8,6 +8,9 @@
 
 static volatile uint8_t byte;
 
+/* The two runs of an input come first. Those with a length of 2^32 more follow. */
+enum { RUNS = 2 };
+
 static bool is(const char *name) {
   const char *chosen = getenv("LOMVUZE_FAULT");
   return chosen != NULL && strcmp(chosen, name) == 0;
@@ -18,6 +21,17 @@ static uint32_t following(uint32_t check) {
   const uint32_t *next = target.checks;
   while (*next != check) next++;
   return next[1];
+}
+
+/* Another seed; or the last number becomes the next one in its range, or one outside. */
+static void draw_otherwise(const struct sizes *s, enum part part, struct buffer drawn) {
+  if (part == SEED && is("draws-another-seed")) drawn.bytes[0] ^= 1;
+  if (part == SEED) return;
+  uint8_t *last = drawn.bytes + drawn.length - LOMVUZE_NUMBER_BYTES;
+  uint32_t limit = part == POSITIONS ? 4 * s->k : LOMVUZE_P;
+  if (is("draws-another-number")) put_number(last, (number_at(last) + 1) % limit);
+  if (is("draws-too-great-a-number")) put_number(last, limit);
+  if (is("draws-too-small-a-challenge")) put_number(last, s->l - 1);
 }
 
 /* What is done to the buffers. */
@@ -33,11 +47,13 @@ static void spoil(const struct call *call, uint32_t verdict, unsigned calls) {
     if (is("writes-before-output")) out->bytes[-1] = byte;
     if (out->length == 0) continue;
     if (is("writes-at-refusal") && verdict != LOMVUZE_ACCEPTED) out->bytes[out->length - 1] ^= 1;
+    if (is("accepts-and-writes") && verdict != LOMVUZE_ACCEPTED && calls <= RUNS) memset(out->bytes, 0, out->length);
     if (verdict != LOMVUZE_ACCEPTED) continue;
     size_t end = written(call, i);
     if (is("writes-beyond") && end < out->length) out->bytes[end] ^= 1;
     if (is("leaves-a-byte") && end > 0) out->bytes[end - 1] = (uint8_t)calls;
     if (is("writes-another-byte") && end > 0 && target.outputs[i] != SHEET_SIZES) out->bytes[end - 1] ^= 1;
+    draw_otherwise(&call->sizes, target.outputs[i], *out);
   }
 }
 
@@ -59,6 +75,8 @@ uint64_t fault(const struct call *call, uint64_t answer) {
   if (is("answers-none")) return UINT32_MAX;
   if (is("answers-in-turns") && calls % 2 == 0) return LOMVUZE_ACCEPTED;
   if (is("accepts")) return LOMVUZE_ACCEPTED;
+  if (is("accepts-and-writes") && calls <= RUNS) return LOMVUZE_ACCEPTED;
+  if (is("exchanges-checks") && calls <= RUNS) return following(verdict);
   if (is("refuses") && verdict == LOMVUZE_ACCEPTED) return LOMVUZE_ELEMENT;
   if (is("misses-first-inputs") && verdict == LOMVUZE_FIRST_INPUT) return following(verdict);
   bool after = verdict != LOMVUZE_ACCEPTED && !comes_before(verdict, LOMVUZE_FIRST_INPUT);

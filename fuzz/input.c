@@ -9,6 +9,13 @@ void put_number(uint8_t *bytes, uint32_t number) {
   for (int i = 0; i < 4; i++) bytes[i] = (uint8_t)(number >> 8 * i);
 }
 
+bool below_p(struct buffer numbers) {
+  for (size_t i = 0; i < numbers.length; i += LOMVUZE_NUMBER_BYTES) {
+    if (number_at(numbers.bytes + i) >= LOMVUZE_P) return false;
+  }
+  return true;
+}
+
 uint32_t *number_of(struct sizes *sizes, char letter) {
   switch (letter) {
     case 'm': return &sizes->m;
@@ -65,6 +72,8 @@ static uint32_t length_of(enum part part, const struct sizes *s) {
     case OPENINGS: return s->t * opening;
     case OPENED:
     case ALL_OPENINGS: return s->t * (s->l + 1) * opening;
+    case SEED: return 32;
+    case CHALLENGE: return 4;
     case SHEET_ENTRIES: return (uint32_t)LOMVUZE_SHEET_ENTRIES_BYTES;
     case SHEET_ITEMS: return (uint32_t)LOMVUZE_SHEET_ITEMS_BYTES;
     case SHEET_WITNESSES: return (uint32_t)LOMVUZE_SHEET_WITNESSES_BYTES;

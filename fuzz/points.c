@@ -25,9 +25,9 @@ void put_built_in(uint8_t *bytes, size_t length, uint32_t k) {
 }
 
 bool points_pass(struct buffer points) {
+  if (!below_p(points)) return false;
   for (size_t i = 0; i < points.length; i += LOMVUZE_NUMBER_BYTES) {
     uint32_t point = number_at(points.bytes + i);
-    if (point >= LOMVUZE_P) return false;
     for (size_t j = 0; j < i; j += LOMVUZE_NUMBER_BYTES) {
       if (number_at(points.bytes + j) == point) return false;
     }

@@ -17,12 +17,12 @@ fail() { printf 'FAILED: %s\n' "$1"; exit 1; }
 calls=$(sed -n 's/^uint[0-9]*_t lomvuze_\([a-z_]*\)(.*/\1/p' include/lomvuze.h)
 flags=(-std=c11 -O1 -g -Wall -Wextra -Wpedantic -Werror -Iinclude)
 checked=(-fsanitize=address,undefined -fno-sanitize-recover=undefined)
-for part in target input points leading memory replay $calls; do
+for part in target input points leading drawn memory replay $calls; do
     cc "${flags[@]}" "${checked[@]}" -c -o "$folder/$part.o" "fuzz/$part.c"
 done
 cc "${flags[@]}" -c -o "$folder/fault.o" fuzz/fault.c
 for call in $calls; do
-    objects=("$folder"/{"$call",target,input,points,leading,memory,replay}.o)
+    objects=("$folder"/{"$call",target,input,points,leading,drawn,memory,replay}.o)
     cc "${checked[@]}" -o "$folder/$call" "${objects[@]}" "$library"
     cc "${checked[@]}" -o "$folder/$call.faulty" "${objects[@]}" "$folder/fault.o" "$library"
 done
@@ -54,6 +54,22 @@ control() {
     fi
     controls=$((controls + 1))
 }
+# The same with faults that drawing alone could have.
+control_drawing() {
+    local name=${2##*/}
+    case $name in
+        *-and-*) control "$1" "$2" exchanges-checks "FOUND: check ${name%%-*}" ;;&
+        [!0]*) control "$1" "$2" accepts-and-writes 'FOUND: check' ;;
+        *-empty) ;; # no number is drawn
+        0*)
+            control "$1" "$2" draws-another-number 'FOUND: another number'
+            control "$1" "$2" draws-too-great-a-number 'FOUND: a number outside'
+            [ "$1" = draw_challenge ] || return 0
+            control "$1" "$2" draws-too-small-a-challenge 'FOUND: a number outside'
+            control "$1" "$2" draws-another-seed 'FOUND: another seed'
+            ;;
+    esac
+}
 controls=0
 for call in $calls; do
     LOMVUZE_FAULT='' "$folder/$call.faulty" fuzz/corpus/"$call"/* >/dev/null || fail "$call: found without a fault"
@@ -72,7 +88,8 @@ for call in $calls; do
             control "$call" "$seed" accepts 'FOUND: '
             control "$call" "$seed" answers-in-turns 'FOUND: another answer'
         fi
-        if [ "$call" != read_sheet ] && compgen -G "fuzz/corpus/$call/13*" >/dev/null; then
+        # Where 13 is the last check, overlooking it is to accept.
+        if [[ $call != read_sheet && $call != draw_* ]] && compgen -G "fuzz/corpus/$call/13*" >/dev/null; then
             case ${seed##*/} in
                 13*) control "$call" "$seed" misses-first-inputs 'FOUND: check 13' ;;
                 [5-9]* | 1[01]*) control "$call" "$seed" refuses-first-inputs 'FOUND: check 13' ;;
@@ -96,6 +113,8 @@ for call in $calls; do
             control "$call" "$seed" writes-behind-output 'AddressSanitizer: SEGV'
             control "$call" "$seed" writes-before-output 'AddressSanitizer: SEGV'
         fi
+        [[ $call != draw_* ]] || control_drawing "$call" "$seed"
+        [[ $seed != *-empty ]] || continue # nothing is written
         if [ "$writes" ] && [ "$accepted" ]; then
             control "$call" "$seed" leaves-a-byte 'FOUND: other bytes'
             control "$call" "$seed" writes-another-byte 'FOUND: '

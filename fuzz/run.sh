@@ -24,13 +24,14 @@ fi
 
 # Coverage of the targets themselves would say nothing about the library, so they have none; target.c tells libFuzzer what to keep.
 checked=(-fsanitize=address,undefined -fno-sanitize-recover=undefined)
-for part in target input points leading memory mutator "${calls[@]}"; do
+for part in target input points leading drawn memory mutator "${calls[@]}"; do
     clang -std=c11 -O1 -g -Wall -Wextra -Wpedantic -Werror -Iinclude "${checked[@]}" -c -o "$folder/$part.o" "fuzz/$part.c"
 done
 
 status=0
 for call in "${calls[@]}"; do
-    clang "${checked[@]}" -fsanitize=fuzzer -o "$folder/$call" "$folder/$call.o" "$folder"/{target,input,points,leading,memory,mutator}.o "$library"
+    objects=("$folder"/{"$call",target,input,points,leading,drawn,memory,mutator}.o)
+    clang "${checked[@]}" -fsanitize=fuzzer -o "$folder/$call" "${objects[@]}" "$library"
     log="$folder/$call.log"
     seeds=("fuzz/corpus/$call")
     [ ! -d "$folder/seeds/$call" ] || seeds+=("$folder/seeds/$call")
@@ -44,7 +45,7 @@ for call in "${calls[@]}"; do
         -artifact_prefix="$folder/$call-" "${words[@]}" "$folder/kept/$call" "${seeds[@]}" >"$log" 2>&1 || found=yes
     runs=$(sed -n 's/^stat::number_of_executed_units: *//p' "$log")
     rate=$(sed -n 's/^stat::average_exec_per_sec: *//p' "$log")
-    printf '%-10s %9s runs, %6s a second; verdicts %s\n' "$call" "${runs:-?}" "${rate:-?}" "$(sed -n 's/^verdicts: //p' "$log")"
+    printf '%-14s %9s runs, %6s a second; verdicts %s\n' "$call" "${runs:-?}" "${rate:-?}" "$(sed -n 's/^verdicts: //p' "$log")"
     if [ "$found" ]; then
         status=1
         printf 'FOUND by %s: %s\n' "$call" "$log"

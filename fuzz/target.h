@@ -1,7 +1,7 @@
 /*
  * Fuzz targets: each tries one call of include/lomvuze.h on inputs that a fuzzer makes. The file of a call, such as verify.c, defines
  * `target`; target.c runs the call and checks what it did, input.c reads inputs, points.c has what is known of points, leading.c of first inputs,
- * memory.c the buffers, and mutator.c changes inputs.
+ * drawn.c of what is drawn, memory.c the buffers, and mutator.c changes inputs.
  *
  * THE INPUT
  *
@@ -50,6 +50,8 @@ enum part {
   OPENINGS,     /* of one witness */
   OPENED,       /* of all items and the new one, witness by witness */
   ALL_OPENINGS, /* of all items and the new one, position by position */
+  SEED,
+  CHALLENGE,    /* that was drawn */
   SHEET,        /* the only input of its call */
   SHEET_ENTRIES,
   SHEET_ITEMS,
@@ -114,6 +116,9 @@ struct buffer slice(struct buffer buffer, size_t start, size_t length);
 void put_number(uint8_t *bytes, uint32_t number);
 uint32_t number_at(const uint8_t *bytes);
 
+/* Whether all numbers of a buffer are below p. */
+bool below_p(struct buffer numbers);
+
 /* Whether the call tests one check before the other. */
 bool comes_before(uint32_t one, uint32_t other);
 
@@ -122,6 +127,28 @@ struct buffer item_of(uint32_t k, struct buffer points, struct buffer witness);
 
 /* The codeword's value at a position, for points that are lent: the sum of w_j * (point at the position)^j. */
 uint32_t value_at(struct buffer points, size_t position, struct buffer witness);
+
+/* ---- Drawing anew, for comparisons */
+
+/* What is hashed. Items and quotient of the greatest sizes fit, with what stands before them and padding behind. */
+enum { LONGEST_MESSAGE = 4096 };
+
+struct message {
+  uint8_t bytes[LONGEST_MESSAGE];
+  size_t length;
+};
+
+void add_number(struct message *message, uint32_t number);
+void add_bytes(struct message *message, struct buffer bytes);
+
+/* Its SHA-256. What stands behind the message is overwritten. */
+void hash(struct message *message, uint8_t digest[LOMVUZE_DIGEST_BYTES]);
+
+/* So many bytes of it from the front, as a number, lowest first. */
+uint64_t first_bytes(struct message *message, size_t count);
+
+/* Requires that number j of a buffer is below the limit: as many first bytes as count of the SHA-256 of message and j, modulo the limit. */
+void require_drawn(struct buffer numbers, struct message *message, size_t count, uint32_t limit);
 
 /* ---- Inputs, for target.c, input.c and mutator.c */
 

@@ -30,6 +30,7 @@
  *   item       e, r (m elements), x (n elements, of which the first is 1), root (a digest)
  *   quotient   (l - 1) * (m + 1) elements, the coefficient of X^0 first
  *   positions  t numbers below 4k
+ *   seed       a digest, from which challenge and positions are drawn: see DRAWING
  *   opening    the codeword's value at a position, then log2(4k) digests: the siblings from the
  *              leaf upwards. The position is not among its bytes, but is hashed in its leaf.
  *
@@ -38,11 +39,11 @@
  * THE FIRST INPUT
  *
  * The first number of x is the constant 1, also where n = 1, and the entries of column 0 are the
- * circuit's constants. Where it is another number LOMVUZE_FIRST_INPUT refuses: in cast over the x
- * lent, in quotient, fold and verify over each of the l items, in decide over its item, and in a
- * sheet over each item. The new item of a fold has it without a test, since the L_i (see FOLDS) add
- * up to 1. Verify does not test it there: with another first input new_item is not the one that
- * items and challenge give, and LOMVUZE_NEW_ITEM refuses it.
+ * circuit's constants. Where it is another number LOMVUZE_FIRST_INPUT refuses: in cast and draw_r
+ * over the x lent, in quotient, fold, verify and draw_challenge over each of the l items, in decide
+ * over its item, and in a sheet over each item. The new item of a fold has it without a test, since
+ * the L_i (see FOLDS) add up to 1. Verify does not test it there: with another first input new_item
+ * is not the one that items and challenge give, and LOMVUZE_NEW_ITEM refuses it.
  *
  * Before version 0.4.0 it was a number like the others. Batches and sheets of that time are
  * refused by LOMVUZE_FIRST_INPUT, but for those whose first inputs are 1. In the new form n and
@@ -103,6 +104,68 @@
  *                    plus Z(a) * quotient(a); root: that of the new witness's codeword
  *   the new witness  the sum of L_i(a) times the items' witnesses
  *
+ * DRAWING
+ *
+ * Challenge, positions and r can be drawn by hash from what they test. A digest is SHA-256 of the
+ * parts in the last column, one behind the other: first a single byte, then numbers, in four bytes
+ * each, lowest first, and buffers as they lie. The first bytes of a digest are one number, lowest
+ * first too.
+ *
+ *   drawn       is                               of the digest of
+ *   seed        all of it                        0x02, m, n, k, l, the l items, the quotient
+ *   challenge   l + (first 8 bytes) mod (p - l)  0x03, seed
+ *   position j  (first 4 bytes) mod 4k           0x04, seed, challenge, root of the new item, j
+ *   r_j         (first 8 bytes) mod p            0x05, root, x, j
+ *
+ * m, n, k, l, challenge and j take 4 bytes each, seed and root 32, an item (e, r, x and root)
+ * LOMVUZE_ITEM_BYTES(m, n), the quotient LOMVUZE_QUOTIENT_BYTES(m, l), none for one item, and x
+ * LOMVUZE_X_BYTES(n). j is 0 to t - 1 for positions and 0 to m - 1 for r. t is in no digest: with a
+ * greater t the first positions are the same.
+ *
+ * The chain with drawn numbers, where each call is lent what the earlier ones wrote:
+ *
+ *   lomvuze_encode          the root of each witness
+ *   lomvuze_draw_r          r, from this root and x
+ *   lomvuze_cast            the item, with this r
+ *   lomvuze_quotient        the quotient of the items
+ *   lomvuze_draw_challenge  seed and challenge, from items and quotient
+ *   lomvuze_fold            at lomvuze_number(challenge): new item and witness, and the same
+ *                           quotient again
+ *   lomvuze_draw_positions  from seed, challenge and the root in the new item, which starts at
+ *                           LOMVUZE_ITEM_ROOT(m, n)
+ *   lomvuze_open            each witness and the new one, at these positions
+ *
+ * and then lomvuze_interleave, lomvuze_verify and lomvuze_decide. It is proved that from the
+ * quotient on every verdict is 0 where the items pass the checks, hold and match (docs/AUDIT.md).
+ *
+ * What drawing settles: who picks challenge, positions and r, and after what. Nobody picks them:
+ * they follow from the bytes that they test. It settles this for whoever draws them from the very
+ * bytes that are verified, since lomvuze_verify takes the numbers as they are lent. So do not take
+ * them from the registrar. Draw them, and compare r of each item with what its root and x give.
+ *
+ * What it does not settle:
+ *
+ *   - How many were tried. Whoever makes items, quotient or new root can change them and draw
+ *     again, as often as wanted, and nobody sees it. For each list with a false item and each
+ *     quotient up to (l - 1) * (m + 2) of the p - l challenges pass, so that one of these is drawn
+ *     after some p / ((l - 1) * (m + 2)) tries: 36 million for l = 8 and m = 6, a thousand million
+ *     for l = 2 and m = 0. That is little for a computer. A challenge that you pick yourself, after
+ *     items and quotient are handed in, gives one try each time that they are.
+ *   - What many challenges show (below). One list of items and one quotient have one drawn
+ *     challenge, so that for l > 1 there are never enough of them. That statement is about
+ *     challenges that are lent, whoever picked them, and no theorem is about tries.
+ *   - That the seed lent to lomvuze_draw_positions is that of these items and this quotient. It is
+ *     32 bytes like any others: have it from a lomvuze_draw_challenge of your own.
+ *   - That there are k different positions. Drawn positions repeat: count the different ones. With
+ *     t = 4k, digests taken as random, fewer than k are different once in 2,097,152 times for
+ *     k = 2, and less often for greater k.
+ *   - Circuit and points. They are in no digest, and are agreed on before.
+ *   - e = 0, both verdicts, the same bytes, second layers: obligations 1, 5, 6 and 7 stay.
+ *
+ * Before version 0.6.0 nothing was drawn. Three calls were added, and the others take, answer and
+ * write what they did. Programs are linked anew, since the shared library's name has the minor
+ * number.
+ *
  * WHAT THE CALLER SEES TO
  *
  * Between a statement and a verdict stand things that no call can test. The program
@@ -113,11 +176,18 @@
  *      4 * 5 = 21 is accepted at every challenge.
  *   2. r is picked after x and root are fixed, and not by whoever hands in the statement. Row j
  *      counts with weight_j alone: at r = 0 a false row 1 counts nothing, and its item holds.
+ *      lomvuze_draw_r settles it where you compare its r with that of each item, but for how many
+ *      x and roots were tried.
  *   3. The challenge is picked after items and quotient are fixed, and not by whoever made them.
  *      For one that is known beforehand, a quotient can be made that lets a false item pass.
+ *      lomvuze_draw_challenge settles it where you draw from the items and the quotient that you
+ *      verify, but for how many of them were tried.
  *   4. There are at least k different positions, picked after all that they test (items, quotient
  *      and new item, its root too), and not by the prover. With fewer that are known beforehand, a
- *      new witness that fits them and holds can be found for a false item.
+ *      new witness that fits them and holds can be found for a false item. lomvuze_draw_positions
+ *      settles when and by whom, where the seed is one that you drew and the root is that of the
+ *      new item that you verify. That k are different it does not settle, nor how many new roots
+ *      were tried: with one drawn position, a new witness that fits it is found after a few.
  *   5. lomvuze_verify and lomvuze_decide get the same bytes (the new item and the sizes), and
  *      lomvuze_decide gets the circuit and the points that were agreed on. Otherwise a fold of a
  *      false item is verified, another item is decided, and both verdicts are 0. Points that are
@@ -147,30 +217,36 @@
  *
  * THE CALLS, IN THE ORDER OF USE
  *
- *   lomvuze_cast        an item from a circuit, r, public inputs and a witness
- *   lomvuze_fold        quotient, new item and new witness from l items and their witnesses
- *   lomvuze_open        the openings of one witness: to be called for each item's witness and for
- *                       the new one, with the same positions
- *   lomvuze_interleave  the openings of all of them, in the order in which lomvuze_verify reads
- *                       them
- *   lomvuze_verify      tests a fold by items, quotient, new item and openings, without circuit
- *                       or witness, and counts the SHA-256 blocks that this takes
- *   lomvuze_decide      tests one item, such as the last new one, with its circuit and witness
+ *   lomvuze_cast            an item from a circuit, r, public inputs and a witness
+ *   lomvuze_fold            quotient, new item and new witness from l items and their witnesses
+ *   lomvuze_open            the openings of one witness: to be called for each item's witness and
+ *                           for the new one, with the same positions
+ *   lomvuze_interleave      the openings of all of them, in the order in which lomvuze_verify reads
+ *                           them
+ *   lomvuze_verify          tests a fold by items, quotient, new item and openings, without circuit
+ *                           or witness, and counts the SHA-256 blocks that this takes
+ *   lomvuze_decide          tests one item, such as the last new one, with its circuit and witness
  *
- *   lomvuze_encode      codeword and root of a witness
- *   lomvuze_quotient    the quotient alone
- *   lomvuze_read_sheet  sizes, circuit, items and witnesses from a sheet of text
+ * and where numbers are drawn,
  *
- *   lomvuze_strerror    what a verdict means
- *   lomvuze_version     the version of the library
+ *   lomvuze_draw_r          before lomvuze_cast: r, from root and public inputs
+ *   lomvuze_draw_challenge  before lomvuze_fold: seed and challenge, from items and quotient
+ *   lomvuze_draw_positions  before lomvuze_open: positions, from seed, challenge and new root
+ *
+ *   lomvuze_encode          codeword and root of a witness
+ *   lomvuze_quotient        the quotient alone
+ *   lomvuze_read_sheet      sizes, circuit, items and witnesses from a sheet of text
+ *
+ *   lomvuze_strerror        what a verdict means
+ *   lomvuze_version         the version of the library
  *
  * ANSWERS
  *
- * The verdict of a call, of the eight and of the sheet reader, is 0 or the number of the first of
+ * The verdict of a call, of the eleven and of the sheet reader, is 0 or the number of the first of
  * its checks that fails (enum lomvuze_answer). Each check covers the whole input before the next
  * one runs, in the order that stands at each call: LOMVUZE_POINTS, which is 12, comes directly
- * after 3, and LOMVUZE_FIRST_INPUT, which is 13, directly after 4 (in verify, which has no 4,
- * directly after 3).
+ * after 3, and LOMVUZE_FIRST_INPUT, which is 13, directly after 4 (in verify, draw_challenge and
+ * draw_r, which have no 4, directly after 3).
  *
  * The answer is what a call returns. It is the verdict itself, but for lomvuze_verify, whose answer
  * also has a count: see BLOCKS. What a call returns and writes depends on its arguments alone.
@@ -223,7 +299,8 @@
  * MEMORY
  *
  * - No pointer may be null, not even that of an empty buffer: see LOMVUZE_EMPTY. (The quotient of
- *   one item is empty, and so are r for m = 0 and the points where the built-in ones are meant.)
+ *   one item is empty, and so are r for m = 0, also where it is drawn, and the points where the
+ *   built-in ones are meant.)
  * - Input buffers may overlap each other. An output buffer must not overlap any other buffer of
  *   the same call.
  * - Buffers need no alignment, but for sizes_out of lomvuze_read_sheet.
@@ -233,15 +310,18 @@
  * - The deepest stack of each call, in bytes: measured at the greatest sizes, arguments included,
  *   and rounded up.
  *
- *     lomvuze_encode     4,608
- *     lomvuze_cast       5,120
- *     lomvuze_quotient   5,120
- *     lomvuze_fold       7,168
- *     lomvuze_open      19,968
- *     lomvuze_interleave   512
- *     lomvuze_verify     2,560
- *     lomvuze_decide     5,120
- *     lomvuze_read_sheet 50,688
+ *     lomvuze_encode          4,608
+ *     lomvuze_cast            5,120
+ *     lomvuze_quotient        5,120
+ *     lomvuze_fold            7,168
+ *     lomvuze_open           19,968
+ *     lomvuze_interleave        512
+ *     lomvuze_verify          2,560
+ *     lomvuze_decide          5,120
+ *     lomvuze_draw_challenge  2,048
+ *     lomvuze_draw_positions  2,048
+ *     lomvuze_draw_r          2,048
+ *     lomvuze_read_sheet     50,688
  *
  * - The time that a call takes may depend on the numbers in its buffers.
  */
@@ -258,7 +338,7 @@ extern "C" {
 /* ---- The version of this header: numbers, and the text "MAJOR.MINOR.PATCH" */
 
 #define LOMVUZE_VERSION_MAJOR 0
-#define LOMVUZE_VERSION_MINOR 5
+#define LOMVUZE_VERSION_MINOR 6
 #define LOMVUZE_VERSION_PATCH 0
 #define LOMVUZE_VERSION \
   LOMVUZE_TEXT(LOMVUZE_VERSION_MAJOR, LOMVUZE_VERSION_MINOR, LOMVUZE_VERSION_PATCH)
@@ -327,6 +407,10 @@ extern "C" {
 
 #define LOMVUZE_NUMBER_BYTES LOMVUZE_AS_SIZE(4)
 #define LOMVUZE_DIGEST_BYTES LOMVUZE_AS_SIZE(32)
+
+/* What lomvuze_draw_challenge writes. */
+#define LOMVUZE_SEED_BYTES LOMVUZE_DIGEST_BYTES
+#define LOMVUZE_CHALLENGE_BYTES LOMVUZE_NUMBER_BYTES
 
 /* A list of `count` entries, up to LOMVUZE_MAX_ENTRIES. */
 #define LOMVUZE_ENTRIES_BYTES(count) \
@@ -407,6 +491,13 @@ static inline uint8_t *lomvuze_out(uint8_t *bytes, size_t length) {
 
 #define LOMVUZE_EMPTY lomvuze_empty(), 0
 #define LOMVUZE_BUILT_IN_POINTS LOMVUZE_EMPTY
+
+/* ---- The number in four bytes of a buffer, lowest first, such as a challenge that was drawn */
+
+static inline uint32_t lomvuze_number(const uint8_t bytes[4]) {
+  return LOMVUZE_AS(uint32_t, bytes[0]) | LOMVUZE_AS(uint32_t, bytes[1]) << 8 |
+         LOMVUZE_AS(uint32_t, bytes[2]) << 16 | LOMVUZE_AS(uint32_t, bytes[3]) << 24;
+}
 
 /* ---- Answers */
 
@@ -636,6 +727,54 @@ uint32_t lomvuze_decide(uint32_t m, uint32_t n, uint32_t k,
                         const uint8_t *c, size_t c_len,
                         const uint8_t *item, size_t item_len,
                         const uint8_t *wit, size_t wit_len);
+
+/*
+ * Draws the challenge of l items and a quotient, and writes the seed that it comes from too: see
+ * DRAWING above.
+ *
+ *   items          LOMVUZE_ITEMS_BYTES(m, n, l)
+ *   quotient       LOMVUZE_QUOTIENT_BYTES(m, l), such as lomvuze_quotient writes
+ *   seed_out       LOMVUZE_SEED_BYTES
+ *   challenge_out  LOMVUZE_CHALLENGE_BYTES: a number from l to p - 1, for lomvuze_number
+ *
+ * Checks, in this order: LOMVUZE_SIZE, LOMVUZE_ELEMENT, LOMVUZE_FIRST_INPUT. It sees neither
+ * circuit nor witness: whether the items hold, and whether this is their quotient, is not tested.
+ */
+uint32_t lomvuze_draw_challenge(uint32_t m, uint32_t n, uint32_t k, uint32_t l,
+                                const uint8_t *items, size_t items_len,
+                                const uint8_t *quotient, size_t quotient_len,
+                                uint8_t *seed_out, size_t seed_out_len,
+                                uint8_t *challenge_out, size_t challenge_out_len);
+
+/*
+ * Draws t positions of a fold.
+ *
+ *   challenge      l to p - 1: the one that was drawn with the seed
+ *   seed           LOMVUZE_SEED_BYTES: as lomvuze_draw_challenge wrote it
+ *   root           LOMVUZE_DIGEST_BYTES: the root of the new item
+ *   positions_out  LOMVUZE_POSITIONS_BYTES(t): numbers below 4k, of which some may be equal
+ *
+ * Checks, in this order: LOMVUZE_SIZE, LOMVUZE_CHALLENGE. That the challenge was drawn from this
+ * seed is not tested.
+ */
+uint32_t lomvuze_draw_positions(uint32_t k, uint32_t l, uint32_t t, uint32_t challenge,
+                                const uint8_t *seed, size_t seed_len,
+                                const uint8_t *root, size_t root_len,
+                                uint8_t *positions_out, size_t positions_out_len);
+
+/*
+ * Draws the r of an item.
+ *
+ *   root   LOMVUZE_DIGEST_BYTES: the root of the item, such as lomvuze_encode writes
+ *   x      LOMVUZE_X_BYTES(n): its first number is 1
+ *   r_out  LOMVUZE_R_BYTES(m): with m = 0 it is empty, and the checks are run all the same
+ *
+ * Checks, in this order: LOMVUZE_SIZE, LOMVUZE_ELEMENT, LOMVUZE_FIRST_INPUT.
+ */
+uint32_t lomvuze_draw_r(uint32_t m, uint32_t n,
+                        const uint8_t *root, size_t root_len,
+                        const uint8_t *x, size_t x_len,
+                        uint8_t *r_out, size_t r_out_len);
 
 /*
  * Reads a sheet of any bytes (docs/SHEETS.md describes the text): the circuit's entries, the items

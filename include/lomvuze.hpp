@@ -10,8 +10,9 @@
  * For the built-in points pass {}, or built_in_points(), which says so.
  *
  * Nothing else differs: lomvuze.h says what each call takes, answers and writes. So verify returns
- * the whole answer: LOMVUZE_VERDICT and LOMVUZE_BLOCKS take it apart. Lengths must be exact, so no
- * container is resized. Nothing is copied, and nothing is thrown.
+ * the whole answer: LOMVUZE_VERDICT and LOMVUZE_BLOCKS take it apart. draw_challenge writes the
+ * challenge as four bytes: lomvuze_number(challenge.data()) is what fold, draw_positions and verify
+ * take. Lengths must be exact, so no container is resized. Nothing is copied, and nothing is thrown.
  */
 #ifndef LOMVUZE_HPP
 #define LOMVUZE_HPP
@@ -118,6 +119,22 @@ inline uint64_t verify(uint32_t m, uint32_t n, uint32_t k, uint32_t l, uint32_t 
 inline uint32_t decide(uint32_t m, uint32_t n, uint32_t k, in points, in a, in b, in c, in item, in wit) noexcept {
   return lomvuze_decide(m, n, k, points.data(), points.size(), a.data(), a.size(), b.data(), b.size(), c.data(),
                         c.size(), item.data(), item.size(), wit.data(), wit.size());
+}
+
+inline uint32_t draw_challenge(uint32_t m, uint32_t n, uint32_t k, uint32_t l, in items, in quotient, out seed,
+                               out challenge) noexcept {
+  return lomvuze_draw_challenge(m, n, k, l, items.data(), items.size(), quotient.data(), quotient.size(), seed.data(),
+                                seed.size(), challenge.data(), challenge.size());
+}
+
+inline uint32_t draw_positions(uint32_t k, uint32_t l, uint32_t t, uint32_t challenge, in seed, in root,
+                               out positions) noexcept {
+  return lomvuze_draw_positions(k, l, t, challenge, seed.data(), seed.size(), root.data(), root.size(),
+                                positions.data(), positions.size());
+}
+
+inline uint32_t draw_r(uint32_t m, uint32_t n, in root, in x, out r) noexcept {
+  return lomvuze_draw_r(m, n, root.data(), root.size(), x.data(), x.size(), r.data(), r.size());
 }
 
 inline uint32_t read_sheet(in sheet, out a, out b, out c, out items, out wits, uint32_t (&sizes)[7]) noexcept {

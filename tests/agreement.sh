@@ -1,7 +1,7 @@
 #!/usr/bin/env bash
-# The definitions beside the reference: writes closed equations between what the definitions of crates/theory give and what
-# the reference in rust/reference computes, and has the prover check each by computation. Run from anywhere; it needs rt and
-# cargo. Fails if an equation is refused, if there are none, or if one with a wrong number is accepted.
+# The definitions beside the reference: writes closed equations between what the definitions of crates/theory and crates/draw
+# give and what the reference in rust/reference computes, and has the prover check each by computation. Run from anywhere; it
+# needs rt and cargo. Fails if an equation is refused, if there are none, or if one with a wrong number is accepted.
 set -euo pipefail
 cd "$(dirname "$0")/.."
 
@@ -9,9 +9,9 @@ folder=target/agreement
 rm -rf "$folder"
 mkdir -p "$folder"
 
-rt check theory
+rt check draw
 words=(-L "dependency=$PWD/target/rlib")
-for crate in theory $(sed -n 's/^theory: *//p' crates.txt); do
+for crate in draw $(sed -n 's/^draw: *//p' crates.txt); do
     [ ! -d "target/rlib/$crate.rlib" ] || words+=(--extern "$crate=$PWD/target/rlib/$crate.rlib")
 done
 

@@ -1,5 +1,5 @@
 #!/usr/bin/env bash
-# The header's prototypes are those of crates/verdicts/src/lib.rt: the same calls, and of each what it returns and the parameters, their names, order,
+# The header's prototypes are those of crates/verdicts/src: the same calls, and of each what it returns and the parameters, their names, order,
 # types and constness, with a length behind each buffer's pointer. Then the control: changed headers are told from it. The header's answers, the texts of
 # lomvuze_strerror and those in the man pages agree, and so do the versions.
 set -euo pipefail
@@ -12,7 +12,7 @@ fail() { printf 'FAILED: %s\n' "$1"; exit 1; }
 # What C must declare for each exported function, sorted: the call, a number, and a parameter, or first what is returned. An output's name gets
 # _out; two parameters have a name in the header that says more.
 exported() {
-    tr '\n' ' ' <crates/verdicts/src/lib.rt | grep -o 'pub extern "C" fn [^{]*' |
+    cat crates/verdicts/src/*.rt | tr '\n' ' ' | grep -o 'pub extern "C" fn [^{]*' |
         sed 's/.* fn //; s/ *ensures .*//; s/, *)/)/; s/( */(/; s/) *-> */)/; s/ *$//' |
         awk -F'[()]' '
             function say(text) { printf "%s %02d %s\n", call, line++, text }
@@ -80,6 +80,9 @@ noticed 's/^uint32_t lomvuze_quotient(/uint32_t lomvuze_quotients(/'
 noticed 's/^uint64_t lomvuze_verify(/uint32_t lomvuze_verify(/'
 noticed 's/^uint32_t lomvuze_decide(/uint64_t lomvuze_decide(/'
 noticed 's/^uint32_t lomvuze_open(/int lomvuze_open(/'
+noticed '/^uint32_t lomvuze_draw_challenge(/,/;/s/uint8_t \*challenge_out, size_t challenge_out_len/uint32_t *challenge_out/'
+noticed '/^uint32_t lomvuze_draw_positions(/,/;/{s/seed/other/g;s/root/seed/g;s/other/root/g}'
+noticed '/^uint32_t lomvuze_draw_r(/,/;/s/uint8_t \*r_out/const uint8_t *r_out/'
 
 # ---- Answers: the header's, those of lomvuze_strerror, and those of the man pages
 texts=$(sed -n 's/.*case \(LOMVUZE_[A-Z_]*\): return "\(.*\)";/\1 \2/p' c/lomvuze.c)

@@ -16,6 +16,15 @@ mod buffers;
 #[path = "edges/contents.rs"]
 mod contents;
 
+#[path = "edges/draw_buffers.rs"]
+mod draw_buffers;
+
+#[path = "edges/drawing.rs"]
+mod drawing;
+
+#[path = "edges/drawn.rs"]
+mod drawn;
+
 #[path = "edges/leading_one.rs"]
 mod leading_one;
 

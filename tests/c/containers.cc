@@ -1,6 +1,7 @@
 /*
- * lomvuze.hpp: the whole chain over containers, two items of w0 * w1 = x1, over the built-in points and over others, with empty vectors whose pointer
- * is null. What lomvuze.h writes for the same arguments is the same. Prints one line; the exit status is 1 where something fails.
+ * lomvuze.hpp: the whole chain over containers, two items of w0 * w1 = x1, with numbers that are picked and with drawn ones, over the built-in points
+ * and over others, with empty vectors whose pointer is null. What lomvuze.h writes for the same arguments is the same. Prints one line; the exit
+ * status is 1 where something fails.
  */
 #include "lomvuze.hpp"
 
@@ -31,6 +32,7 @@ static_assert(!std::is_convertible<int, lomvuze::in>::value, "nor is a number");
 
 static_assert(std::is_same<decltype(lomvuze::verify(0, 1, 2, 1, 1, 1, {}, {}, {}, {}, {})), uint64_t>::value, "the whole answer");
 static_assert(std::is_same<decltype(lomvuze::decide(0, 1, 2, {}, {}, {}, {}, {}, {})), uint32_t>::value, "a verdict");
+static_assert(std::is_same<decltype(lomvuze::draw_challenge(0, 1, 2, 1, {}, {}, {}, {})), uint32_t>::value, "another");
 
 /* ---- The chain */
 
@@ -78,6 +80,48 @@ static void chain(const bytes &points) {
   REQUIRE(lomvuze::decide(0, 2, 2, numbers({1, 2, 3, 4, 5, 6, 7, 8}), a, b, c, item, w) == LOMVUZE_ROOT);
 }
 
+/* ---- The chain with drawn numbers. Row 1 has no entries: m = 1, so that there is an r to draw. */
+
+/* The items of 2 * 3 = 6 and 4 * 5 = 20. */
+static bytes cast_drawn(const bytes &points, const bytes &a, const bytes &b, const bytes &c) {
+  bytes items, code(LOMVUZE_CODEWORD_BYTES(2)), root(LOMVUZE_DIGEST_BYTES), r(LOMVUZE_R_BYTES(1)), item(LOMVUZE_ITEM_BYTES(1, 2));
+  for (uint32_t w0 : {2u, 4u}) {
+    const bytes x = numbers({1, w0 * (w0 + 1)}), w = numbers({w0, w0 + 1});
+    REQUIRE(lomvuze::encode(2, points, w, code, root) == LOMVUZE_ACCEPTED);
+    REQUIRE(lomvuze::draw_r(1, 2, root, x, r) == LOMVUZE_ACCEPTED);
+    REQUIRE(lomvuze::cast(1, 2, 2, points, a, b, c, r, x, w, item) == LOMVUZE_ACCEPTED);
+    items = items + item;
+  }
+  return items;
+}
+
+static void drawn_chain(const bytes &points) {
+  const bytes a = numbers({0, 2, 1}), b = numbers({0, 3, 1}), c = numbers({0, 1, 1}), w0 = numbers({2, 3}), w1 = numbers({4, 5});
+  const bytes items = cast_drawn(points, a, b, c);
+  bytes quotient(LOMVUZE_QUOTIENT_BYTES(1, 2)), again(quotient.size()), item(LOMVUZE_ITEM_BYTES(1, 2)), w(w0.size());
+  bytes seed(LOMVUZE_SEED_BYTES), drawn(LOMVUZE_CHALLENGE_BYTES), same_seed(seed.size()), same(drawn.size()), positions(LOMVUZE_POSITIONS_BYTES(8));
+  REQUIRE(lomvuze::quotient(1, 2, 2, 2, points, a, b, c, items, w0 + w1, quotient) == LOMVUZE_ACCEPTED);
+  REQUIRE(lomvuze::draw_challenge(1, 2, 2, 2, items, quotient, seed, drawn) == LOMVUZE_ACCEPTED);
+  REQUIRE(lomvuze_draw_challenge(1, 2, 2, 2, items.data(), items.size(), quotient.data(), quotient.size(), same_seed.data(), same_seed.size(),
+                                 same.data(), same.size()) == LOMVUZE_ACCEPTED);
+  REQUIRE(seed == same_seed && drawn == same);
+  const uint32_t challenge = lomvuze_number(drawn.data());
+  REQUIRE(lomvuze::fold(1, 2, 2, 2, challenge, points, a, b, c, items, w0 + w1, again, item, w) == LOMVUZE_ACCEPTED && again == quotient);
+  const lomvuze::in root(item.data() + LOMVUZE_ITEM_ROOT(1, 2), LOMVUZE_DIGEST_BYTES);
+  REQUIRE(lomvuze::draw_positions(2, 2, 8, challenge, seed, root, positions) == LOMVUZE_ACCEPTED);
+  REQUIRE(lomvuze::draw_positions(2, 2, 8, 1, seed, root, positions) == LOMVUZE_CHALLENGE);
+
+  bytes opened, openings(LOMVUZE_ALL_OPENINGS_BYTES(2, 2, 8));
+  for (const bytes &witness : {w0, w1, w}) {
+    bytes one(LOMVUZE_OPENINGS_BYTES(2, 8));
+    REQUIRE(lomvuze::open(2, 8, points, witness, positions, one) == LOMVUZE_ACCEPTED);
+    opened = opened + one;
+  }
+  REQUIRE(lomvuze::interleave(2, 2, 8, opened, openings) == LOMVUZE_ACCEPTED);
+  REQUIRE(LOMVUZE_VERDICT(lomvuze::verify(1, 2, 2, 2, 8, challenge, items, positions, quotient, item, openings)) == LOMVUZE_ACCEPTED);
+  REQUIRE(lomvuze::decide(1, 2, 2, points, a, b, c, item, w) == LOMVUZE_ACCEPTED);
+}
+
 /* The codeword of (0, 1) is the list of points: the built-in ones, lent by hand, give what an empty buffer gives. Then what is refused. */
 static void lent_points() {
   const bytes w = numbers({2, 3});
@@ -92,7 +136,7 @@ static void lent_points() {
   REQUIRE(lomvuze::encode(2, numbers({0, 1, 2, 3, 4, 5, 6}), w, code, root) == LOMVUZE_SIZE);
 }
 
-/* One item without a circuit: points, entries, r and quotient are empty, and so are the vectors' pointers null. */
+/* One item without a circuit: points, entries, r, lent or drawn, and quotient are empty, and so are the vectors' pointers null. */
 static void empty() {
   const bytes none, x = numbers({1}), w = numbers({2, 3});
   bytes quotient, item(LOMVUZE_ITEM_BYTES(0, 1)), new_item(item.size()), new_w(w.size());
@@ -104,6 +148,10 @@ static void empty() {
                        w.size(), lomvuze_out(quotient.data(), quotient.size()), quotient.size(), new_item.data(), new_item.size(), new_w.data(),
                        new_w.size()) == LOMVUZE_ACCEPTED);
   REQUIRE(new_item == item && new_w == w);
+
+  bytes r, seed(LOMVUZE_SEED_BYTES), challenge(LOMVUZE_CHALLENGE_BYTES);
+  REQUIRE(lomvuze::draw_challenge(0, 1, 2, 1, item, quotient, seed, challenge) == LOMVUZE_ACCEPTED);
+  REQUIRE(lomvuze::draw_r(0, 1, seed, x, r) == LOMVUZE_ACCEPTED && lomvuze::draw_r(0, 1, seed, numbers({2}), {}) == LOMVUZE_FIRST_INPUT);
 }
 
 static void other_kinds() {
@@ -130,9 +178,11 @@ static void other_kinds() {
 int main() {
   chain(bytes());
   chain(numbers({5, 0, LOMVUZE_P - 1, 1, 7, 31, 8, 6}));
+  drawn_chain(bytes());
+  drawn_chain(numbers({5, 0, LOMVUZE_P - 1, 1, 7, 31, 8, 6}));
   lent_points();
   empty();
   other_kinds();
-  if (!failed) printf("containers: the chain, points, empty ones and other kinds as expected\n");
+  if (!failed) printf("containers: the chains, points, empty ones and other kinds as expected\n");
   return failed ? 1 : 0;
 }

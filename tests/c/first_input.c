@@ -34,6 +34,7 @@ static uint8_t *first_input(uint8_t *item) { return item + (1 + M) * LOMVUZE_NUM
 
 static struct {
   uint8_t quotient[sizeof quotient], item[sizeof new_item], wit[sizeof new_wit];
+  uint8_t seed[LOMVUZE_SEED_BYTES], challenge[LOMVUZE_CHALLENGE_BYTES], r[sizeof r];
 } out;
 
 static struct {
@@ -81,6 +82,17 @@ static uint32_t verify(uint32_t challenge) {
                                         new_item, sizeof new_item, openings, sizeof openings));
 }
 
+static uint32_t draw_challenge(void) {
+  fill();
+  return untouched(lomvuze_draw_challenge(M, N, K, L, items[0], sizeof items, quotient, sizeof quotient, out.seed, sizeof out.seed,
+                                          out.challenge, sizeof out.challenge));
+}
+
+static uint32_t draw_r(size_t i) {
+  fill();
+  return untouched(lomvuze_draw_r(M, N, items[i] + LOMVUZE_ITEM_ROOT(M, N), LOMVUZE_DIGEST_BYTES, x[i], sizeof x[i], out.r, sizeof out.r));
+}
+
 static uint32_t decide(const uint8_t *item, const uint8_t *wit) {
   return lomvuze_decide(M, N, K, OVER, item, sizeof new_item, wit, sizeof new_wit);
 }
@@ -118,6 +130,7 @@ static void fold_three(void) {
   REQUIRE(lomvuze_interleave(K, L, T, opened, sizeof opened, openings, sizeof openings) == LOMVUZE_ACCEPTED);
   REQUIRE(verify(CHALLENGE) == LOMVUZE_ACCEPTED);
   REQUIRE(decide(new_item, new_wit) == LOMVUZE_ACCEPTED);
+  REQUIRE(draw_challenge() == LOMVUZE_ACCEPTED && draw_r(0) == LOMVUZE_ACCEPTED);
 }
 
 /* ---- One item after the other */
@@ -131,6 +144,8 @@ static void each_item(uint32_t number, uint32_t answer) {
     REQUIRE(fold(CHALLENGE) == answer);
     REQUIRE(verify(CHALLENGE) == answer);
     REQUIRE(decide(items[i], wits[i]) == answer);
+    REQUIRE(draw_challenge() == answer);
+    REQUIRE(draw_r(i) == answer);
     put(x[i], 1);
     put(first_input(items[i]), 1);
   }
@@ -166,7 +181,7 @@ static void in_order(void) {
   REQUIRE(verify(CHALLENGE) == LOMVUZE_FIRST_INPUT);
   positions[0] = 0;
   put(quotient, LOMVUZE_P);
-  REQUIRE(verify(CHALLENGE) == LOMVUZE_ELEMENT);
+  REQUIRE(verify(CHALLENGE) == LOMVUZE_ELEMENT && draw_challenge() == LOMVUZE_ELEMENT);
   memcpy(quotient, first_quotient, sizeof quotient);
   put(x[1], 1);
   put(first_input(items[1]), 1);
@@ -218,6 +233,6 @@ int main(void) {
   of_the_new_item();
   of_sheets();
   REQUIRE(cast_one(1) == LOMVUZE_ACCEPTED && cast_one(2) == LOMVUZE_FIRST_INPUT);
-  if (!failed) printf("first inputs: tested by five calls and the sheet reader, each in its place, and nothing written\n");
+  if (!failed) printf("first inputs: tested by seven calls and the sheet reader, each in its place, and nothing written\n");
   return failed;
 }

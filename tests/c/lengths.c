@@ -1,6 +1,6 @@
 /*
  * The header's macros, in C and in C++: constants, every limit from both sides, numbers that would wrap, and arguments of each integer type. The
- * lengths that are expected come from functions that know the limits by themselves.
+ * lengths that are expected come from functions that know the limits by themselves. And the number in four bytes.
  */
 #include <assert.h>
 #include <inttypes.h>
@@ -19,6 +19,7 @@ static_assert(LOMVUZE_ITEM_BYTES(6, 64) == 316 && LOMVUZE_ITEM_ROOT(6, 64) == 28
 static_assert(LOMVUZE_SHEET_ITEMS_BYTES == 64 * 316 && LOMVUZE_SHEET_WITNESSES_BYTES == 64 * 256, "a sheet");
 static_assert(LOMVUZE_QUOTIENT_BYTES(6, 8) == 196 && LOMVUZE_QUOTIENT_BYTES(0, 1) == 0, "a quotient");
 static_assert(LOMVUZE_QUOTIENT_BYTES(0, 0) == SIZE_MAX && LOMVUZE_QUOTIENT_BYTES(-1, 1) == SIZE_MAX, "no quotient");
+static_assert(LOMVUZE_SEED_BYTES == 32 && LOMVUZE_CHALLENGE_BYTES == 4, "what is drawn");
 static_assert(LOMVUZE_POINTS_BYTES(64) == 1024 && LOMVUZE_POINTS_BYTES(0) == SIZE_MAX, "points");
 static_assert(LOMVUZE_DEPTH(64) == 8 && LOMVUZE_DEPTH(63) == 0 && LOMVUZE_MAX_T(3) == 0, "k");
 static_assert(LOMVUZE_VERIFY_BLOCKS(64, 8, 256) == 39168 && LOMVUZE_VERIFY_BLOCKS(2, 1, 1) == 14, "the most and the fewest blocks");
@@ -84,6 +85,16 @@ static void try_three(size_t x, size_t y, size_t z) {
   SAME(LOMVUZE_VERIFY_BLOCKS(x, y, z), permitted ? z * (y + 1) * (1 + 2 * depth(x)) : 0);
 }
 
+/* Four bytes, lowest first. */
+static void try_number(void) {
+  const uint8_t bytes[] = {0xff, 0xff, 0xff, 0xff, 0, 0, 0, 0, 0x04, 0x83, 0x02, 0x81};
+  SAME(lomvuze_number(bytes), UINT32_MAX);
+  SAME(lomvuze_number(bytes + 1), 0xffffff);
+  SAME(lomvuze_number(bytes + 4), 0);
+  SAME(lomvuze_number(bytes + 5), 0x04000000);
+  SAME(lomvuze_number(bytes + 8), 0x81028304);
+}
+
 /* The same numbers in each integer type. */
 #define TRY_TYPE(type, number)                                                                       \
   do {                                                                                               \
@@ -130,6 +141,7 @@ int main(void) {
       for (size_t q = 0; q < count; q++) try_three(numbers[i], numbers[j], numbers[q]);
     }
   }
+  try_number();
   try_types();
   printf("lengths: %lu compared\n", compared);
   return wrong == 0 ? 0 : 1;

@@ -16,12 +16,12 @@ static const uint8_t x[LOMVUZE_X_BYTES(1)] = {1}, w[LOMVUZE_WITNESS_BYTES(2)] = 
 static uint8_t item[LOMVUZE_ITEM_BYTES(0, 1)], new_item[sizeof item], new_w[sizeof w], opened[LOMVUZE_ALL_OPENINGS_BYTES(2, 1, 1)];
 static uint8_t openings[sizeof opened], entries[LOMVUZE_SHEET_ENTRIES_BYTES], items[LOMVUZE_SHEET_ITEMS_BYTES];
 static uint8_t wits[LOMVUZE_SHEET_WITNESSES_BYTES], other[2][sizeof entries];
-static uint8_t code[LOMVUZE_CODEWORD_BYTES(2)], root[LOMVUZE_DIGEST_BYTES];
+static uint8_t code[LOMVUZE_CODEWORD_BYTES(2)], root[LOMVUZE_DIGEST_BYTES], seed[LOMVUZE_SEED_BYTES], challenge[LOMVUZE_CHALLENGE_BYTES];
 static uint32_t sizes[7];
 
 /*
- * The calls, where an empty buffer has its length: the built-in points, entries, r, the quotient of one item, a sheet. EMPTY_IN and EMPTY_OUT are two
- * arguments.
+ * The calls, where an empty buffer has its length: the built-in points, entries, r, lent or drawn, the quotient of one item, a sheet. EMPTY_IN and
+ * EMPTY_OUT are two arguments. Drawing positions takes none.
  */
 #define TAKES(EMPTY_IN, EMPTY_OUT)                                                                                                         \
   do {                                                                                                                                     \
@@ -36,6 +36,8 @@ static uint32_t sizes[7];
     REQUIRE(LOMVUZE_VERDICT(lomvuze_verify(0, 1, 2, 1, 1, 9, item, sizeof item, position, sizeof position, EMPTY_IN, new_item,             \
                                            sizeof new_item, openings, sizeof openings)) == 0);                                             \
     REQUIRE(lomvuze_decide(0, 1, 2, EMPTY_IN, EMPTY_IN, EMPTY_IN, EMPTY_IN, new_item, sizeof new_item, new_w, sizeof new_w) == 0);         \
+    REQUIRE(lomvuze_draw_challenge(0, 1, 2, 1, item, sizeof item, EMPTY_IN, seed, sizeof seed, challenge, sizeof challenge) == 0);         \
+    REQUIRE(lomvuze_draw_r(0, 1, root, sizeof root, x, sizeof x, EMPTY_OUT) == 0);                                                         \
     REQUIRE(lomvuze_read_sheet(EMPTY_IN, entries, sizeof entries, other[0], sizeof entries, other[1], sizeof entries, items, sizeof items, \
                                wits, sizeof wits, sizes) == LOMVUZE_SHEET);                                                                \
   } while (0)
@@ -51,6 +53,9 @@ static uint32_t sizes[7];
     REQUIRE(lomvuze_interleave(2, 1, 1, EMPTY_IN, EMPTY_OUT) == LOMVUZE_SIZE);                                                                         \
     REQUIRE(lomvuze_verify(0, 1, 2, 1, 1, 9, EMPTY_IN, EMPTY_IN, EMPTY_IN, EMPTY_IN, EMPTY_IN) == LOMVUZE_SIZE);                                       \
     REQUIRE(lomvuze_decide(0, 1, 2, EMPTY_IN, EMPTY_IN, EMPTY_IN, EMPTY_IN, EMPTY_IN, EMPTY_IN) == LOMVUZE_SIZE);                                      \
+    REQUIRE(lomvuze_draw_challenge(0, 1, 2, 1, EMPTY_IN, EMPTY_IN, EMPTY_OUT, EMPTY_OUT) == LOMVUZE_SIZE);                                             \
+    REQUIRE(lomvuze_draw_positions(2, 1, 1, 9, EMPTY_IN, EMPTY_IN, EMPTY_OUT) == LOMVUZE_SIZE);                                                        \
+    REQUIRE(lomvuze_draw_r(0, 1, EMPTY_IN, EMPTY_IN, EMPTY_OUT) == LOMVUZE_SIZE);                                                                      \
     REQUIRE(lomvuze_read_sheet(EMPTY_IN, EMPTY_OUT, EMPTY_OUT, EMPTY_OUT, EMPTY_OUT, EMPTY_OUT, sizes) == LOMVUZE_SHEET);                              \
   } while (0)
 

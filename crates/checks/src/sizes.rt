@@ -2,13 +2,20 @@
 ghost use mathlib.Core.Path.{_≡_};
 ghost use Prim.Native.Nat.{_*_, _<_};
 ghost use lib.ListN.{length};
-ghost use Rattle.theory.specs.Sizes.{sizes, itemCountFits, positionCountFits, matrixFits, circuitFits, positionsBelow};
+ghost use Rattle.theory.specs.Sizes.{claimSizes, sizes, itemCountFits, positionCountFits, matrixFits, circuitFits, positionsBelow};
 ghost use Rattle.theory.specs.Fp.{challengeFits};
+
+// m and n.
+pub fn claim_sizes(m: u32, n: u32) -> bool
+    ensures { λ r. ⌜ r ≡ claimSizes m n ⌝ }
+{
+    (m <= 6) & (1 <= n) & (n <= 64)
+}
 
 pub fn sizes(m: u32, n: u32, k: u32) -> bool
     ensures { λ r. ⌜ r ≡ sizes m n k ⌝ }
 {
-    (m <= 6) & (1 <= n) & (n <= 64) & code::is_witness_count(k)
+    claim_sizes(m, n) & code::is_witness_count(k)
 }
 
 // 1 to 8 items.

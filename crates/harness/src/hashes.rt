@@ -1,10 +1,12 @@
-// SHA-256, the leaf and the inner node of a hash tree.
+// SHA-256, the leaf and the inner node of a hash tree, and a running hash.
 ghost use mathlib.Core.Path.{_≡_};
 ghost use mathlib.Core.List.{[], _∷_, _++_};
+ghost use Prim.Native.Nat.{_^_, _<_};
 ghost use lib.ListN.{length};
 ghost use Rattle.hash.specs.Sha256.{blockCount, digest};
-ghost use Rattle.harness.specs.Answers.{digestAnswer, leafAnswer};
+ghost use Rattle.harness.specs.Answers.{digestAnswer, leafAnswer, runningAnswer};
 ghost use Rattle.theory.specs.Checks.{written};
+use running::Running;
 
 // The digest, and the number of blocks. A message of 2^61 bytes or more is refused: its length in bits does not fit eight bytes.
 #[no_mangle]
@@ -52,5 +54,54 @@ pub extern "C" fn lomvuze_test_node(left: &[u8; 32], right: &[u8; 32], out: &mut
     let r = *right;
     let hashed = hash::node(l, r);
     let d = hashed.digest;
+    *out = d;
+}
+
+// The digest of a message, fed into a running hash in pieces of `step` bytes.
+fn in_pieces(message: &[u8], step: usize) -> [u8; 32]
+    requires { ⌜ (length (now message) < 2 ^ 61) × (0 < step) ⌝ }
+    ensures { λ r. ⌜ r ≡ digest (now (message .entry)) ⌝ }
+{
+    let len = message.len();
+    let mut state = Running::new();
+    let mut at = 0;
+    while step < len - at {
+        let next = state.feed_slice(&message[at..at + step]);
+        state = next;
+        at += step;
+    }
+    state.feed_slice(&message[at..]).digest()
+}
+
+// The digest of a message that is fed into a running hash in pieces of `step` bytes, of which the last may have fewer. Pieces of no bytes are refused, and
+// so is a message of 2^61 bytes or more.
+#[no_mangle]
+pub extern "C" fn lomvuze_test_running(message: &[u8], step: usize, out: &mut [u8; 32]) -> u32
+    ensures answer { λ r. ⌜ r ≡ runningAnswer step (length (now (message .entry))) ⌝ }
+    ensures out { λ r. ⌜ now (out .exit) ≡ written r (digest (now (message .entry))) (now (out .entry)) ⌝ }
+{
+    if !((message.len() < 0x2000000000000000) & (0 < step)) {
+        return 1;
+    }
+    let d = in_pieces(message, step);
+    *out = d;
+    0
+}
+
+// The digest of an inner node: its byte and two digests, fed into a running hash.
+fn fed_node(left: [u8; 32], right: [u8; 32]) -> [u8; 32]
+    ensures { λ r. ⌜ r ≡ digest (0x01 ∷ (left ++ right)) ⌝ }
+{
+    let marked = Running::new().feed_byte(0x01);
+    marked.feed_digest(left).feed_digest(right).digest()
+}
+
+#[no_mangle]
+pub extern "C" fn lomvuze_test_running_node(left: &[u8; 32], right: &[u8; 32], out: &mut [u8; 32])
+    ensures { λ _. ⌜ now (out .exit) ≡ digest (0x01 ∷ (now (left .entry) ++ now (right .entry))) ⌝ }
+{
+    let l = *left;
+    let r = *right;
+    let d = fed_node(l, r);
     *out = d;
 }

@@ -2,7 +2,7 @@
 -- Assumes nothing.
 use mathlib.Core.Path.{_≡_, sym, ap, ap₂, _∙_}
 use mathlib.Core.List.{List, _∷_, _++_, append-assoc}
-use Prim.Native.Nat.{ℕ, suc, _+_, _-_, _*_, _/_, _%_}
+use Prim.Native.Nat.{ℕ, suc, _+_, _-_, _*_, _/_, _%_, _≤_}
 use native.Mathlib.Nat.{le-of-eq, zero-add}
 use native.Mathlib.Omega.{arith}
 use lib.ListN.{length, take, drop, set, replicate, length-append, length-drop, length-replicate, replicate-append-replicate, take-append-drop}
@@ -69,26 +69,29 @@ closed b s out l l-b empty e-s e-out =
     (omega arith)
     ∙ ap (λ (t : List ℕ). rest ++ (0x80 ∷ (replicate (zeros l) 0 ++ t)) ++ replicate k 0) e-s
 
+-- n bytes x, written at the front of 128 zeros: what follows them
+pub zeros-behind : (x b : List ℕ) (n : ℕ) → length x ≡ n → n ≤ 128 → b ≡ x ++ drop (0 + length x) (replicate 128 0) → drop n b ≡ replicate (128 - n) 0
+zeros-behind x b n l few e-b =
+    let all : n + (128 - n) ≡ 128 = omega arith in
+    ap (drop n) e-b ∙ drop-at x (drop (0 + length x) (replicate 128 0)) n l
+    ∙ ap (λ (i : ℕ). drop i (replicate {A = ℕ} 128 0)) (zero-add (length x) ∙ l)
+    ∙ ap (drop n) (sym (replicate-append-replicate n (128 - n) 0 ∙ ap (λ (i : ℕ). replicate {A = ℕ} i 0) all))
+    ∙ drop-at (replicate n 0) (replicate (128 - n) 0) n (length-replicate n 0)
+
 -- the bytes of m past its whole blocks, as the code's slice has them
 abbrev pub rest-of : List ℕ → List ℕ
 rest-of m = take (length m - 64 * (length m / 64)) (drop (64 * (length m / 64)) m)
 
+pub rest-is : (m : List ℕ) → rest-of m ≡ drop (64 * (length m / 64)) m
+rest-is m = take-all (length m - 64 * (length m / 64)) (drop (64 * (length m / 64)) m) (le-of-eq (length-drop (64 * (length m / 64)) m))
+
 -- b is these bytes, written at the front of 128 zeros
 module _ (m b : List ℕ) (e-b : b ≡ rest-of m ++ drop (0 + length (rest-of m)) (replicate 128 0)) where
-  rest-is : rest-of m ≡ drop (64 * (length m / 64)) m
-  rest-is = take-all (length m - 64 * (length m / 64)) (drop (64 * (length m / 64)) m) (le-of-eq (length-drop (64 * (length m / 64)) m))
-
   length-rest : length (rest-of m) ≡ length m % 64
-  length-rest = ap length rest-is ∙ length-drop (64 * (length m / 64)) m ∙ omega arith
+  length-rest = ap length (rest-is m) ∙ length-drop (64 * (length m / 64)) m ∙ omega arith
 
   pub zeros-past : drop (length m % 64) b ≡ replicate (128 - length m % 64) 0
-  zeros-past =
-      let n : ℕ = length m % 64 in
-      let all : n + (128 - n) ≡ 128 = omega arith in
-      ap (drop n) e-b ∙ drop-at (rest-of m) (drop (0 + length (rest-of m)) (replicate 128 0)) n length-rest
-      ∙ ap (λ (i : ℕ). drop i (replicate {A = ℕ} 128 0)) (zero-add (length (rest-of m)) ∙ length-rest)
-      ∙ ap (drop n) (sym (replicate-append-replicate n (128 - n) 0 ∙ ap (λ (i : ℕ). replicate {A = ℕ} i 0) all))
-      ∙ drop-at (replicate n 0) (replicate (128 - n) 0) n (length-replicate n 0)
+  zeros-past = zeros-behind (rest-of m) b (length m % 64) length-rest (omega arith) e-b
 
   -- with the padding they are the last blocks
   pub last-is : (z out : List ℕ) → out ≡ take (length m % 64) b ++ padding (length m) ++ z → out ≡ drop (64 * (length m / 64)) (pad m) ++ z
@@ -96,5 +99,5 @@ module _ (m b : List ℕ) (e-b : b ≡ rest-of m ++ drop (0 + length (rest-of m)
   last-is z out e =
       e
       ∙ ap (λ (t : List ℕ). t ++ padding (length m) ++ z)
-      (ap (take (length m % 64)) e-b ∙ take-at (rest-of m) (drop (0 + length (rest-of m)) (replicate 128 0)) (length m % 64) length-rest ∙ rest-is)
+      (ap (take (length m % 64)) e-b ∙ take-at (rest-of m) (drop (0 + length (rest-of m)) (replicate 128 0)) (length m % 64) length-rest ∙ rest-is m)
       ∙ ap (λ (t : List ℕ). t ++ z) (sym (drop-append-le (64 * (length m / 64)) m (padding (length m)) (omega arith)))

@@ -5,14 +5,14 @@ ghost use Prim.Native.Nat.{_^_, _≤_, _<_};
 ghost use lib.ListN.{length};
 ghost use Rattle.hash.specs.Sha256.{blockCount, digest};
 
-mod compress;
-mod message;
+pub mod compress;
+pub mod message;
 mod word;
 
 use crate::compress::State;
 
 // The initial hash value: FIPS 180-4, section 5.3.3.
-const H0: [u32; 8] = [
+pub const H0: [u32; 8] = [
     0x6a09e667,
     0xbb67ae85,
     0x3c6ef372,

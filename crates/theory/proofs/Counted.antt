@@ -3,7 +3,7 @@ use mathlib.Core.Path.{_≡_, refl, sym, ap, ap₂, _∙_}
 use mathlib.Core.Logic.{_≢_}
 use mathlib.Core.Bool.{Bool, true, false, cond}
 use mathlib.Core.List.{List, [], _∷_}
-use Prim.Native.Nat.{ℕ, zero, suc, _+_, _*_, _/_, _%_, _≤_, _<_}
+use Prim.Native.Nat.{ℕ, suc, _+_, _*_, _≤_, _<_}
 use native.Mathlib.Decide.{ℕ-discrete}
 use native.Mathlib.Nat.{mul-le-mul}
 use native.Mathlib.Omega.{arith}
@@ -21,7 +21,7 @@ use Rattle.code.specs.Points.{depth}
 use Rattle.code.proofs.Sizes.{count-few, depth-few}
 use Rattle.theory.specs.Items.{Item}
 use Rattle.theory.specs.Folds.{Opening, Shown, positionCount, positionAt, leafAt, openingAt, openingStringsOf}
-use Rattle.theory.specs.Checks.{check, answerIf, answer, every, reaches, reached}
+use Rattle.theory.specs.Checks.{check, answerIf, answer, every, reached}
 use Rattle.theory.specs.Instance.{Instance}
 use Rattle.theory.specs.Buffers.{readItems, openingSize, readOpening}
 use Rattle.theory.specs.Blocks.{openingBlocks, foldBlocks, StopsAt}

@@ -1,4 +1,5 @@
--- Folding an honest list at a permitted challenge: it answers 0, and writes the quotient, the new item and the new witness.
+-- Folding an honest list at a permitted challenge: it answers 0, and writes the quotient, the new item and the new witness. The quotient call
+-- writes the same quotient.
 use mathlib.Core.Path.{_≡_, ap, _∙_}
 use mathlib.Core.Bool.{true}
 use mathlib.Core.List.{List, _∷_}
@@ -14,7 +15,8 @@ use Rattle.theory.specs.Checks.{check}
 use Rattle.theory.specs.Instance.{Instance}
 use Rattle.theory.specs.Buffers.{itemBytes}
 use Rattle.theory.specs.Results.{Folded}
-use Rattle.theory.specs.Calls.{listChecks, claimChecks, listQuotient, newWitness, newItem, foldChecks, fold}
+use Rattle.theory.specs.Sizes.{hasLength}
+use Rattle.theory.specs.Calls.{listChecks, claimChecks, listQuotient, quotientChecks, quotient, newWitness, newItem, foldChecks, fold}
 use Rattle.theory.specs.Statements.{Honest, PermittedChallenge, OutputsFit}
 use Rattle.theory.proofs.CheckLaws.{Passed, true-every, passed-answer, written-accepted}
 use Rattle.theory.proofs.Equality.{same-element}
@@ -60,6 +62,22 @@ module _ {I : Instance} {m n k l : ℕ} {points a b c items wits : List ℕ} (ho
     all-match = true-every l _ (λ i h. same-bytes (honest .matches i h));
     all-hold = true-every l _ (λ i h. same-element I (honest .holds i h));
   }
+
+  -- ---- the quotient alone
+
+  module _ (quotient₀ : List ℕ) (fits : hasLength quotient₀ (E .size (quotientSize m l)) ≡ true) where
+    pub quotient-answers : quotient I m n k l points a b c items wits quotient₀ .answer ≡ 0
+    unfolding quotient
+    quotient-answers = passed-answer (quotientChecks I m n k l points a b c items wits quotient₀) (
+      honest .check2 & fits,
+      All-append Passed (listChecks I m n k l points a b c items wits) (claimChecks I m n k l points a b c items wits)
+          (passed-list I m n k l points a b c items wits (honest-passes honest))
+          (passed-claims I m n k l points a b c items wits honest-claims),
+    )
+
+    pub quotient-wrote : quotient I m n k l points a b c items wits quotient₀ .quotient ≡ E .bytesOf (listQuotient I m n k l a b c items wits)
+    unfolding quotient
+    quotient-wrote = written-accepted _ quotient₀ quotient-answers
 
   -- ---- the call
 

@@ -15,8 +15,12 @@ use Rattle.theory.specs.Buffers.{entryCount, rowAt, columnAt, entryValue
 
 -- ---- check 2: sizes, counts and lengths
 
+-- m and n, and with them k.
+abbrev pub claimSizes : ℕ → ℕ → Bool
+claimSizes m n = leb m 6 && leb 1 n && leb n 64
+
 abbrev pub sizes : ℕ → ℕ → ℕ → Bool
-sizes m n k = leb m 6 && leb 1 n && leb n 64 && isWitnessCount k
+sizes m n k = claimSizes m n && isWitnessCount k
 
 abbrev pub itemCountFits : ℕ → Bool
 itemCountFits l = leb 1 l && leb l 8

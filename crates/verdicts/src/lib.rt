@@ -1,10 +1,12 @@
-// The eight calls and the sheet reader for C. Each tests its own input and answers 0, or the number of the first check that fails; a refusal writes nothing.
+// The calls and the sheet reader for C. Each tests its own input and answers 0, or the number of the first check that fails; a refusal writes nothing.
 // Verifying answers with a count of blocks too.
 ghost use mathlib.Core.Path.{_≡_};
 ghost use Rattle.theory.specs.Checks.{written};
 ghost use Rattle.theory.specs.Results.{packed};
 ghost use Rattle.theory.specs.Fp.{encode, cast, quotient, fold, «open», interleave, verify, decide};
 ghost use Rattle.sheet.specs.Reading.{readSheet, sizesOf};
+
+pub mod drawing;
 
 // Writes the codeword of a witness and its root. Checks 2, 3 and 12.
 #[no_mangle]

@@ -7,12 +7,12 @@ use native.Mathlib.Nat.{mul-le-mul}
 use native.Mathlib.Numerals.{add-one}
 use native.Mathlib.Omega.{arith}
 use borrow.Author.Tests.{eqb-true, leb-true}
-use lib.Dec.{leb, ltb, lit<}
+use lib.Dec.{leb, ltb}
 use lib.ListN.{length}
 use Rattle.numbers.proofs.Tests.{and-right}
 use Rattle.field.specs.BabyBear.{p}
 use Rattle.tree.specs.Layout.{openingSize, openedValue}
-use Rattle.code.specs.Points.{isWitnessCount, depth}
+use Rattle.code.specs.Points.{depth}
 use Rattle.code.proofs.Sizes.{count-few, depth-few as few-levels}
 use Rattle.theory.specs.Checks.{every}
 use Rattle.theory.specs.Combination.{quotientSize}

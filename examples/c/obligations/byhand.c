@@ -12,10 +12,7 @@ const struct claim six = {.x = {1, 6}, .w = {2, 3}};
 const struct claim twenty_one = {.x = {1, 21}, .w = {3, 7}};
 const struct claim falsehood = {.x = {1, 21}, .w = {4, 5}};
 
-uint32_t number(const uint8_t *bytes, size_t j) {
-  const uint8_t *at = bytes + LOMVUZE_NUMBER_BYTES * j;
-  return (uint32_t)at[0] | (uint32_t)at[1] << 8 | (uint32_t)at[2] << 16 | (uint32_t)at[3] << 24;
-}
+uint32_t number(const uint8_t *bytes, size_t j) { return lomvuze_number(bytes + LOMVUZE_NUMBER_BYTES * j); }
 
 void put(uint8_t *bytes, size_t j, uint32_t value) {
   for (size_t i = 0; i < LOMVUZE_NUMBER_BYTES; i++) bytes[LOMVUZE_NUMBER_BYTES * j + i] = (uint8_t)(value >> (8 * i));
@@ -59,6 +56,10 @@ struct fold fold_of(const struct circuit *c, struct pair first, struct pair seco
   memcpy(fold.witnesses + witness, second.witness, witness);
   put(fold.quotient, 0, quotient);
   return fold;
+}
+
+struct fold false_fold(uint32_t quotient) {
+  return fold_of(&product, written(&product, six), written(&product, falsehood), quotient);
 }
 
 /* With two items L_0(a) = 1 - a, L_1(a) = a and Z(a) = a * (a - 1). */

@@ -1,4 +1,4 @@
-/* The calls with their verdicts counted, and what the clearing house picks. */
+/* The calls with their verdicts counted, and what the clearing house picks or draws. */
 #include "obligations.h"
 
 bool answered(struct tally *tally, enum call call, uint32_t verdict) {
@@ -33,8 +33,8 @@ bool fold(struct fold *f, struct tally *tally) {
 
 bool verify(const struct fold *f, struct tally *tally) {
   const struct circuit *c = f->circuit;
-  uint8_t positions[LOMVUZE_POSITIONS_BYTES(MOST_K)];
-  uint8_t opened[LOMVUZE_ALL_OPENINGS_BYTES(MOST_K, FOLDED, MOST_K)], openings[sizeof opened];
+  uint8_t positions[LOMVUZE_POSITIONS_BYTES(MOST_T)];
+  uint8_t opened[LOMVUZE_ALL_OPENINGS_BYTES(MOST_K, FOLDED, MOST_T)], openings[sizeof opened];
   const uint8_t *witnesses[FOLDED + 1] = {f->witnesses, f->witnesses + LOMVUZE_WITNESS_BYTES(c->k), f->out.witness};
   size_t each = LOMVUZE_OPENINGS_BYTES(c->k, f->t), all = LOMVUZE_ALL_OPENINGS_BYTES(c->k, FOLDED, f->t);
   for (size_t q = 0; q < f->t; q++) put(positions, q, f->positions[q]);
@@ -83,6 +83,43 @@ void pick_positions(struct fold *f, struct picker *picker) {
     taken[position] = true;
     f->positions[f->t++] = position;
   }
+}
+
+uint32_t drawn_r(const struct circuit *c, const struct pair *pair) {
+  uint8_t r[LOMVUZE_R_BYTES(MOST_M)];
+  need("draw_r", lomvuze_draw_r(c->m, c->n, pair->item + LOMVUZE_ITEM_ROOT(c->m, c->n), LOMVUZE_DIGEST_BYTES,
+                                pair->item + LOMVUZE_NUMBER_BYTES * (1 + c->m), LOMVUZE_X_BYTES(c->n), r, LOMVUZE_R_BYTES(c->m)));
+  return number(r, 0);
+}
+
+void draw_challenge(struct fold *f) {
+  const struct circuit *c = f->circuit;
+  uint8_t challenge[LOMVUZE_CHALLENGE_BYTES];
+  need("draw_challenge", lomvuze_draw_challenge(c->m, c->n, c->k, FOLDED,
+                                                f->items, LOMVUZE_ITEMS_BYTES(c->m, c->n, FOLDED),
+                                                f->quotient, LOMVUZE_QUOTIENT_BYTES(c->m, FOLDED),
+                                                f->seed, sizeof f->seed, challenge, sizeof challenge));
+  f->challenge = number(challenge, 0);
+}
+
+void draw_positions(struct fold *f, uint32_t t) {
+  const struct circuit *c = f->circuit;
+  uint8_t positions[LOMVUZE_POSITIONS_BYTES(MOST_T)];
+  need("draw_positions", lomvuze_draw_positions(c->k, FOLDED, t, f->challenge, f->seed, sizeof f->seed,
+                                                f->out.item + LOMVUZE_ITEM_ROOT(c->m, c->n), LOMVUZE_DIGEST_BYTES,
+                                                positions, LOMVUZE_POSITIONS_BYTES(t)));
+  f->t = t;
+  for (uint32_t q = 0; q < t; q++) f->positions[q] = number(positions, q);
+}
+
+bool enough_different(const struct fold *f) {
+  bool taken[MOST_T] = {false};
+  uint32_t different = 0;
+  for (uint32_t q = 0; q < f->t; q++) {
+    if (!taken[f->positions[q]]) different++;
+    taken[f->positions[q]] = true;
+  }
+  return different >= f->circuit->k;
 }
 
 void run_chains(struct fold *f, struct tally *tally) {

@@ -16,6 +16,7 @@ enum { CHALLENGES = 2000 };
 #define MOST_M 1u
 #define MOST_N 3u
 #define MOST_K 4u
+#define MOST_T LOMVUZE_MAX_T(MOST_K)
 #define FOLDED 2u
 
 /* ---- What is folded */
@@ -99,16 +100,28 @@ struct fold {
   uint8_t items[LOMVUZE_ITEMS_BYTES(MOST_M, MOST_N, FOLDED)];
   uint8_t witnesses[LOMVUZE_WITNESSES_BYTES(MOST_K, FOLDED)];
   uint8_t quotient[LOMVUZE_QUOTIENT_BYTES(MOST_M, FOLDED)];
+  uint8_t seed[LOMVUZE_SEED_BYTES];
   uint32_t challenge;
   struct pair out;
-  uint32_t t, positions[MOST_K];
+  uint32_t t, positions[MOST_T];
 };
 
 /* Two items to fold, with a quotient whose coefficient of X^0 is given and whose others are 0. */
 struct fold fold_of(const struct circuit *circuit, struct pair first, struct pair second, uint32_t quotient);
 
+/* 2 * 3 = 6 and 4 * 5 = 21, to fold with such a quotient. */
+struct fold false_fold(uint32_t quotient);
+
 /* k different positions. */
 void pick_positions(struct fold *fold, struct picker *picker);
+
+/* What is drawn in place of picks: r of an item with m = 1; seed and challenge of a fold; t positions, from its seed, challenge and new root. */
+uint32_t drawn_r(const struct circuit *circuit, const struct pair *pair);
+void draw_challenge(struct fold *fold);
+void draw_positions(struct fold *fold, uint32_t t);
+
+/* Whether at least k of the positions are different: drawn ones repeat. */
+bool enough_different(const struct fold *fold);
 
 /* New item and witness at the fold's challenge, for whatever quotient is there: what verify tests, and not that the items hold. */
 void fold_by_hand(struct fold *fold);
@@ -130,9 +143,9 @@ void run_chains(struct fold *f, struct tally *tally);
 
 typedef void run(struct tally *without, struct tally *with);
 
-run e_of_a_fold, r_of_the_registrar, r_known_before;
-run challenge_known_before;
-run position_known_before, position_twice, position_too_few;
+run e_of_a_fold, r_of_the_registrar, r_known_before, r_not_compared;
+run challenge_known_before, challenge_not_drawn;
+run position_known_before, position_twice, position_too_few, position_not_drawn, position_tried, positions_not_counted;
 run other_item_decided, other_circuit, other_sizes, other_points;
 run not_decided, not_verified;
 run other_item_above, lower_not_verified;

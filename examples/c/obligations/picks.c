@@ -1,10 +1,16 @@
-/* Obligations 3 and 4: what the clearing house picks, and when. */
+/* Obligations 3 and 4: what the clearing house picks or draws, and when. */
 #include "modp.h"
 #include "obligations.h"
 
 /* The value of a pair, for the circuit w0 * w1 = x1. */
 static uint32_t value(const struct pair *pair) {
   return minus(times(number(pair->witness, 0), number(pair->witness, 1)), number(pair->item, 2));
+}
+
+/* Verifies and decides; counts where both verdicts are 0. */
+static void finish(const struct fold *f, struct tally *tally) {
+  bool verified = verify(f, tally), decided = decide(f->circuit, &f->out, tally);
+  if (verified && decided) tally->accepted++;
 }
 
 /* The quotient with which the fold holds at this one challenge. Both items have e = 0, so e has to be Z(a) * quotient. */
@@ -14,32 +20,32 @@ static void make_quotient_for(struct fold *f, uint32_t a) {
   put(f->quotient, 0, times(value(&f->out), inverse(times(a, minus(a, 1)))));
 }
 
-/* 3. The quotient is made for the challenge that the registrar expects. */
-void challenge_known_before(struct tally *without, struct tally *with) {
-  struct fold f = fold_of(&product, written(&product, six), written(&product, falsehood), 0);
+/* 3. The quotient is made for the challenge that the registrar expects. With the obligation kept, another one is picked, or the challenge is drawn. */
+static void try_challenges(bool drawn, struct tally *without, struct tally *with) {
+  struct fold f = false_fold(0);
   struct picker known = FIRST_PICKS, house = {3, 4};
   for (int i = 0; i < CHALLENGES; i++) {
-    uint32_t expected = pick_challenge(&known);
-    make_quotient_for(&f, expected);
-    uint32_t picked[2] = {expected, pick_challenge(&house)};
-    struct tally *tallies[2] = {without, with};
-    for (int j = 0; j < 2; j++) {
-      f.challenge = picked[j];
-      fold_by_hand(&f);
-      pick_positions(&f, &house);
-      bool verified = verify(&f, tallies[j]), decided = decide(&product, &f.out, tallies[j]);
-      if (verified && decided) tallies[j]->accepted++;
-    }
+    make_quotient_for(&f, pick_challenge(&known));
+    fold_by_hand(&f);
+    pick_positions(&f, &house);
+    finish(&f, without);
+
+    if (drawn)
+      draw_challenge(&f);
+    else
+      f.challenge = pick_challenge(&house);
+    fold_by_hand(&f);
+    pick_positions(&f, &house);
+    finish(&f, with);
   }
 }
 
-/* The code's point of a position: what the codeword of (0, 1) has there. */
-static uint32_t point(uint32_t position) {
-  const uint8_t w[LOMVUZE_WITNESS_BYTES(2)] = {0, 0, 0, 0, 1, 0, 0, 0};
-  uint8_t codeword[LOMVUZE_CODEWORD_BYTES(2)], root[LOMVUZE_DIGEST_BYTES];
-  need("encode", lomvuze_encode(2, LOMVUZE_BUILT_IN_POINTS, w, sizeof w, codeword, sizeof codeword, root, sizeof root));
-  return number(codeword, position);
-}
+void challenge_known_before(struct tally *without, struct tally *with) { try_challenges(false, without, with); }
+
+void challenge_not_drawn(struct tally *without, struct tally *with) { try_challenges(true, without, with); }
+
+/* The built-in point of a position, for k = 2: g^position, where g = 31^((p - 1) / 4k). */
+static uint32_t point(uint32_t position) { return power(power(31, (LOMVUZE_P - 1) / 8), position); }
 
 /*
  * Looks for a new witness with which the new item holds and whose codeword is as before at one position. With v = (-point, 1), whose codeword is
@@ -62,9 +68,15 @@ static bool bend(struct pair *pair, uint32_t position) {
 /* The position that the registrar expects, and the quotient that is fixed before the challenge. */
 enum { EXPECTED = 3, QUOTIENT = 4 };
 
+/* Opens the fold at the same position t times. */
+static void open_at(struct fold *f, uint32_t position, uint32_t t) {
+  f->t = t;
+  for (uint32_t q = 0; q < t; q++) f->positions[q] = position;
+}
+
 /* 4. The fold is opened at t positions: t times the expected one, or one that is picked after. With the obligation kept, at k different ones. */
 static void try_positions(uint32_t t, bool picked, struct tally *without, struct tally *with) {
-  struct fold f = fold_of(&product, written(&product, six), written(&product, falsehood), QUOTIENT);
+  struct fold f = false_fold(QUOTIENT);
   struct picker house = FIRST_PICKS;
   without->expected = 0;
   for (int i = 0; i < CHALLENGES; i++) {
@@ -72,15 +84,11 @@ static void try_positions(uint32_t t, bool picked, struct tally *without, struct
     fold_by_hand(&f);
     bool found = bend(&f.out, EXPECTED);
     pick_positions(&f, &house);
-    bool verified = verify(&f, with), decided = decide(&product, &f.out, with);
-    if (verified && decided) with->accepted++;
+    finish(&f, with);
 
-    f.t = t;
-    for (uint32_t q = 0; q < t; q++) f.positions[q] = picked ? f.positions[0] : EXPECTED;
+    open_at(&f, picked ? f.positions[0] : EXPECTED, t);
     if (found && f.positions[0] == EXPECTED) without->expected++;
-    verified = verify(&f, without);
-    decided = decide(&product, &f.out, without);
-    if (verified && decided) without->accepted++;
+    finish(&f, without);
   }
 }
 
@@ -89,3 +97,60 @@ void position_known_before(struct tally *without, struct tally *with) { try_posi
 void position_twice(struct tally *without, struct tally *with) { try_positions(2, false, without, with); }
 
 void position_too_few(struct tally *without, struct tally *with) { try_positions(1, true, without, with); }
+
+/* The fold with this quotient, by hand at the challenge that is drawn. Each quotient has its own. */
+static void fold_drawn(struct fold *f, uint32_t quotient) {
+  put(f->quotient, 0, quotient);
+  draw_challenge(f);
+  fold_by_hand(f);
+}
+
+/* With the obligation kept: 4k positions are drawn from the new root, and at least k of them are different. */
+static void finish_drawn(struct fold *f, struct tally *with) {
+  draw_positions(f, 4 * f->circuit->k);
+  if (enough_different(f)) finish(f, with);
+}
+
+/* 4. The registrar lends the position that it expects. With the obligation kept, the positions are drawn. */
+void position_not_drawn(struct tally *without, struct tally *with) {
+  struct fold f = false_fold(0);
+  without->expected = 0;
+  for (uint32_t i = 0; i < CHALLENGES; i++) {
+    fold_drawn(&f, i);
+    if (bend(&f.out, EXPECTED)) without->expected++;
+    finish_drawn(&f, with);
+    open_at(&f, EXPECTED, 1);
+    finish(&f, without);
+  }
+}
+
+/* Draws t positions from the root of each new witness that a position does not show, until all t are that position. */
+static bool bend_to_draw(struct fold *f, uint32_t t) {
+  const struct pair combined = f->out;
+  for (uint32_t position = 0; position < 4 * f->circuit->k; position++) {
+    f->out = combined;
+    if (!bend(&f->out, position)) continue;
+    draw_positions(f, t);
+    uint32_t suits = 0;
+    while (suits < t && f->positions[suits] == position) suits++;
+    if (suits == t) return true;
+  }
+  return false;
+}
+
+/* 4. All is drawn, but the registrar goes on to the next quotient until the positions suit. Only k different ones end that. */
+static void try_draws(uint32_t t, struct tally *without, struct tally *with) {
+  struct fold f = false_fold(0);
+  uint32_t quotient = 0;
+  for (int i = 0; i < CHALLENGES; i++) {
+    do {
+      fold_drawn(&f, quotient++);
+    } while (!bend_to_draw(&f, t));
+    finish(&f, without);
+    finish_drawn(&f, with);
+  }
+}
+
+void position_tried(struct tally *without, struct tally *with) { try_draws(1, without, with); }
+
+void positions_not_counted(struct tally *without, struct tally *with) { try_draws(2, without, with); }

@@ -47,6 +47,13 @@ void r_of_the_registrar(struct tally *without, struct tally *with) {
   try_r((struct claim){.x = {1, 6, 5}, .w = {2, 3}}, 0, 7, without, with);
 }
 
+/* 2. The same item. The r that is drawn from its root and x, which r does not change, is another one. */
+void r_not_compared(struct tally *without, struct tally *with) {
+  struct claim claim = {.x = {1, 6, 5}, .w = {2, 3}};
+  struct pair handed_in = written(&two_rows, claim);
+  try_r(claim, 0, drawn_r(&two_rows, &handed_in), without, with);
+}
+
 /* 2. The weights are 1 - r and r, -6 and 7 for r = 7: x is made such that row 0 is wrong by 7 and row 1 by 6. */
 void r_known_before(struct tally *without, struct tally *with) {
   struct claim claim = {.x = {1, minus(6, 7), minus(4, 6)}, .w = {2, 3}};

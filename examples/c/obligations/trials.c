@@ -3,9 +3,9 @@
 
 const struct obligation obligations[OBLIGATIONS] = {
     {"1 e is 0", "A fresh statement has e = 0."},
-    {"2 r", "r is picked after x and root are fixed, and not by the registrar."},
-    {"3 challenge", "The challenge is picked after items and quotient are fixed, and not by the registrar."},
-    {"4 positions", "At least k different positions, picked after items, quotient and new item are fixed, and not by the registrar."},
+    {"2 r", "r is picked after x and root are fixed, and not by the registrar; or it is drawn from them, and compared."},
+    {"3 challenge", "The challenge is picked after items and quotient are fixed, and not by the registrar; or it is drawn from them."},
+    {"4 positions", "At least k different positions, picked after items, quotient and new item are fixed, and not by the registrar; or drawn."},
     {"5 same bytes", "Verify and decide get the same new item and the same sizes, and decide gets the agreed circuit and points."},
     {"6 both verdicts", "The verdicts of verify and of decide are both 0."},
     {"7 second layer", "What is folded again is, byte by byte, the new item of a fold that was verified."},
@@ -25,11 +25,19 @@ const struct trial trials[TRIALS] = {
      "With r = 7 the weights are -6 and 7. The registrar picks x such that row 0 is wrong by 7 and row 1 by 6: the\n"
      "value is -6 × 7 + 7 × 6 = 0, so cast takes the claim.",
      "With r = 11, picked when x and root are fixed, the value is -10 × 7 + 11 × 6 = -4."},
+    {2, r_not_compared, "row 1 is false, and nobody compares r = 0 with the drawn r", "the drawn r",
+     "The item of the first run. The calls take the r that stands in an item, drawn or not.",
+     "The clearing house draws r from the item's root and x, and takes no item with another one. With the drawn r cast\n"
+     "refuses. The registrar writes the item and folds by hand: decide refuses."},
     {3, challenge_known_before, "the quotient is made for a challenge that is known", "another challenge",
      "2 × 3 = 6 and 4 × 5 = 21, both with e = 0. Fold would refuse. The registrar folds by hand, with the quotient\n"
      "with which the new item holds at the known challenge. Each of the challenges has its own quotient.",
      "The clearing house picks another challenge once the quotient is fixed. The fold passes verify, and decide\n"
      "refuses. One quotient can pass at (l - 1)(m + 2) = 2 challenges at most."},
+    {3, challenge_not_drawn, "the challenge is lent by whoever made the quotient for it", "the drawn one",
+     "As before. The registrar says which challenge was drawn, and nobody draws it again.",
+     "The clearing house draws the challenge from items and quotient, and it is another one. What this leaves: the\n"
+     "registrar can try some p / 2 quotients, of which one has a drawn challenge at which it passes."},
     {4, position_known_before, "one position, known before the new item is fixed", "two different ones",
      "k = 2. The items are the same, and the quotient is fixed before the challenge. The registrar changes the new\n"
      "witness in a way that the known position does not show, such that the new item holds. By how much is a\n"
@@ -40,6 +48,20 @@ const struct trial trials[TRIALS] = {
      "As before: t = 2 is k, but the positions are not different.", "As before."},
     {4, position_too_few, "one position, picked after", "two different ones",
      "As before, but the registrar has to guess the position. There are 4k = 8.", "As before."},
+    {4, position_not_drawn, "one position, lent by the registrar", "drawn ones",
+     "The challenge is drawn from items and quotient, and each of the 2,000 quotients has its own. The rest is as in the\n"
+     "first run.",
+     "4k = 8 positions are drawn from seed, challenge and new root, and at least two of them are different each time."},
+    {4, position_tried, "one position is drawn, and the registrar tries until it suits", "two different ones",
+     "As before, but the registrar changes the new witness such that position 0 does not show it, and draws. Where\n"
+     "another position is drawn, it does the same for position 1, and so on, and then goes on to the next quotient,\n"
+     "with another challenge. The position suits at about one try in eight.",
+     "Of 8 positions that are drawn from the same root at least two are different. However many new witnesses are tried,\n"
+     "verify refuses all but the combination."},
+    {4, positions_not_counted, "two are drawn and not counted, and it tries until both suit", "two different ones",
+     "As before, until both positions are the one that does not show the change: at about one try in 64. t = 2 is k, but\n"
+     "the positions are not different.",
+     "As before."},
     {5, other_item_decided, "another item is decided, with e and x of the verified one", "the same item",
      "2 × 3 = 6 and 4 × 5 = 21, folded by hand: that passes verify. The item that is decided has e and x of the new\n"
      "item, but a root and a witness of its own, with which it holds.",

@@ -4,7 +4,7 @@
 
 #include "obligations.h"
 
-enum { OBLIGATIONS = 7, TRIALS = 15 };
+enum { OBLIGATIONS = 7, TRIALS = 20 };
 
 /* An obligation: its name in the table, and what the clearing house sees to. */
 struct obligation {

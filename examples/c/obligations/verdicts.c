@@ -16,10 +16,6 @@ static void count(struct tally *tally, bool verified, bool decided) {
   if (verified && decided) tally->accepted++;
 }
 
-static struct fold false_fold(uint32_t quotient) {
-  return fold_of(&product, written(&product, six), written(&product, falsehood), quotient);
-}
-
 /* 5. The item that is decided has e and x of the one that is verified, and another root. */
 void other_item_decided(struct tally *without, struct tally *with) {
   struct fold f = false_fold(4);

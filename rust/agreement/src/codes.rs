@@ -125,8 +125,6 @@ use mathlib.Core.Path.{_≡_, refl, sym, _∙_, ap, ap₂}
 use mathlib.Core.List.{List, [], _∷_}
 use Prim.Native.Nat.{ℕ}
 use Rattle.field.specs.BabyBear.{babyBear, F, val, ofℕ}
-use Rattle.hash.specs.Word.{ROTR, Ch, Maj, Σ₀, Σ₁, σ₀, σ₁}
-use Rattle.hash.specs.Sha256.{blockCount, digest, bytes, hash, pad, words, compress, inBytes, upTo, K, H₀, zeros, padding, scheduled, schedule, roundWith, rounds, sum}
 use Rattle.tree.specs.Merkle.{leafString, nodeString, root}
 use Rattle.tree.specs.Entry.{entry}
 use Rattle.code.specs.Points.{depth}
@@ -136,13 +134,29 @@ use Rattle.agreement.specs.Elements.{listed}
 use Rattle.agreement.specs.Runs.{numbers-of}
 use Rattle.agreement.specs.Codewords.{equation-0 as codeword-numbers, equation-1 as lent-codeword-numbers}
 "
-    .to_string();
+    .to_string()
+        + USE_SHA_256;
     File { name: "Digests", head, equations }
+}
+
+/// The definitions that a digest is computed by, and where they stand.
+const SHA_256: &str = "blockCount digest bytes hash pad words compress inBytes upTo K H₀ zeros padding scheduled schedule roundWith rounds sum ROTR Ch Maj Σ₀ Σ₁ σ₀ σ₁";
+pub const USE_SHA_256: &str = "use Rattle.hash.specs.Word.{ROTR, Ch, Maj, Σ₀, Σ₁, σ₀, σ₁}
+use Rattle.hash.specs.Sha256.{blockCount, digest, bytes, hash, pad, words, compress, inBytes, upTo, K, H₀, zeros, padding, scheduled, schedule, roundWith, rounds, sum}
+";
+
+/// The digest of a message, which is given as a term.
+pub fn digest_of(message: String, digest: &sha256::Digest) -> Equation {
+    Equation {
+        left: format!("digest ({message})"),
+        right: list(digest),
+        unfolding: SHA_256.to_string(),
+        proof: "refl".to_string(),
+    }
 }
 
 /// The digests of one tree, and what they give: its root; the codeword; the root of the witness.
 fn digests_at(lent: &[u8], codeword_numbers: &str, equations: &mut Vec<Equation>) {
-    let shut = "blockCount digest bytes hash pad words compress inBytes upTo K H₀ zeros padding scheduled schedule roundWith rounds sum ROTR Ch Maj Σ₀ Σ₁ σ₀ σ₁";
     let w = witness();
     let codeword = code::codeword(&used(w.len(), lent), &w);
     // A digest of the current level, and the name of the path from the tree's own term to it.
@@ -150,12 +164,7 @@ fn digests_at(lent: &[u8], codeword_numbers: &str, equations: &mut Vec<Equation>
     for entry in code::entries(&codeword) {
         let digest = tree::leaf(&entry);
         level.push((digest, format!("equation-{}", equations.len())));
-        equations.push(Equation {
-            left: format!("digest (leafString {})", list(entry)),
-            right: list(digest),
-            unfolding: shut.to_string(),
-            proof: "refl".to_string(),
-        });
+        equations.push(digest_of(format!("leafString {}", list(entry)), &digest));
     }
     while level.len() > 1 {
         let mut next = vec![];
@@ -163,12 +172,7 @@ fn digests_at(lent: &[u8], codeword_numbers: &str, equations: &mut Vec<Equation>
             let [(left, left_path), (right, right_path)] = pair else { panic!() };
             let digest = tree::node(left, right);
             let joined = format!("equation-{}", equations.len());
-            equations.push(Equation {
-                left: format!("digest (nodeString {} {})", list(left), list(right)),
-                right: list(digest),
-                unfolding: shut.to_string(),
-                proof: "refl".to_string(),
-            });
+            equations.push(digest_of(format!("nodeString {} {}", list(left), list(right)), &digest));
             next.push((digest, format!("(ap₂ {{C = List ℕ}} (λ (s t : List ℕ). digest (nodeString s t)) {left_path} {right_path} ∙ {joined})")));
         }
         level = next;

@@ -28,7 +28,7 @@ fn honest_list(random: &mut Random) -> (Honest, Instance) {
     (list.lent(points), instance)
 }
 
-/// The eight calls for an honest list of small sizes.
+/// The eight calls that draw nothing, for an honest list of small sizes.
 pub fn honest_calls(random: &mut Random) -> Vec<Call> {
     let (list, instance) = honest_list(random);
     let challenge = list.l + random.below(5) as u32;

@@ -7,6 +7,8 @@ mod blocks;
 mod calls;
 mod claims;
 mod codes;
+mod drawing;
+mod draws;
 mod inputs;
 mod instance;
 mod text;
@@ -16,6 +18,7 @@ use std::{env, fs, io, path::Path};
 fn main() -> io::Result<()> {
     let folder = env::args().nth(1).expect("usage: lomvuze-agreement FOLDER");
     let folder = Path::new(&folder);
+    let [drawn_digests, draws] = draws::files();
     let files = [
         claims::values(),
         claims::weights(),
@@ -26,6 +29,9 @@ fn main() -> io::Result<()> {
         codes::digests(),
         blocks::counts(),
         calls::answers(),
+        drawn_digests,
+        draws,
+        drawing::answers(),
     ];
 
     fs::create_dir_all(folder.join("src"))?;

@@ -14,6 +14,7 @@ pub struct File {
 pub struct Equation {
     pub left: String,
     pub right: String,
+    /// The definitions that the proof unfolds, if any.
     pub unfolding: String,
     pub proof: String,
 }
@@ -23,9 +24,9 @@ impl File {
         let mut text = self.head.clone();
         for (i, equation) in self.equations.iter().enumerate() {
             let Equation { left, right, unfolding, proof } = equation;
-            text += &format!(
-                "\npub equation-{i} : {left} ≡ {right}\nunfolding {unfolding}\nequation-{i} = {proof}\n"
-            );
+            let unfolding =
+                if unfolding.is_empty() { String::new() } else { format!("unfolding {unfolding}\n") };
+            text += &format!("\npub equation-{i} : {left} ≡ {right}\n{unfolding}equation-{i} = {proof}\n");
         }
         text
     }

@@ -1,4 +1,4 @@
-//! The eight calls with k = 64 as a Rust programmer would write them, with the algorithms of the proved ones.
+//! The eleven calls with k = 64 as a Rust programmer would write them, with the algorithms of the proved ones.
 //! The lengths of quotient and fold's output buffers are taken to fit.
 
 #![allow(clippy::too_many_arguments)]
@@ -8,6 +8,7 @@ use crate::claims::*;
 use crate::plain::{openings, root};
 use crate::points::Points;
 
+pub use crate::draws::{draw_challenge, draw_positions, draw_r};
 pub use crate::folds::{fold, quotient, verify};
 
 pub fn encode(k: u32, points: &[u8], w: &[u8], code_out: &mut [u8], root_out: &mut [u8]) -> u32 {

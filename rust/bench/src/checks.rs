@@ -32,8 +32,12 @@ pub fn item_length(m: usize, n: usize) -> usize {
 
 // ---- Checks 2 to 6 and 13
 
+pub fn claim_sizes(m: u32, n: u32) -> bool {
+    m <= 6 && (1..=64).contains(&n)
+}
+
 pub fn sizes(m: u32, n: u32, k: u32) -> bool {
-    m <= 6 && (1..=64).contains(&n) && k as usize == K
+    claim_sizes(m, n) && k as usize == K
 }
 
 pub fn circuit_fits(circuit: Circuit) -> bool {

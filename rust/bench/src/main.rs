@@ -6,7 +6,7 @@
 //! time, so that other work on the machine disturbs it less.
 
 use bench::measure::best;
-use bench::{calls, plain, plain_sheet, points as plain_points};
+use bench::{calls, plain, plain_sheet, points as plain_points, running};
 use lomvuze_proved as proved;
 use lomvuze_reference::sheet::{write, MOST_BYTES};
 use lomvuze_samples::sheet::{of_length, Buffers, Shape, GREATEST};
@@ -76,6 +76,23 @@ fn compare_hashes() {
         1,
         || proved::digest(black_box(&long)),
         || plain::sha256(black_box(&long)),
+    );
+
+    // A byte and two digests; pieces of 100 bytes.
+    let (left, right) = ([7; 32], [8; 32]);
+    compare(
+        "running hash of 65 bytes",
+        500,
+        1,
+        || proved::running_node(black_box(&left), &right),
+        || running::node(black_box(&left), &right),
+    );
+    compare(
+        "running hash of 1 MiB",
+        1,
+        1,
+        || written(|out| assert_eq!(proved::running(black_box(&long), 100, out), 0)),
+        || running::hash(black_box(&long), 100),
     );
 }
 
@@ -153,7 +170,7 @@ fn compare_trees() {
 }
 
 /// Calls, and their counts of positions.
-const CALLS: [(&str, Name, usize); 10] = [
+const CALLS: [(&str, Name, usize); 14] = [
     ("encode", Name::Encode, 1),
     ("cast", Name::Cast, 1),
     ("quotient", Name::Quotient, 1),
@@ -164,6 +181,10 @@ const CALLS: [(&str, Name, usize); 10] = [
     ("verify, t = 64", Name::Verify, 64),
     ("verify, t = 256", Name::Verify, 256),
     ("decide", Name::Decide, 1),
+    ("draw_challenge", Name::DrawChallenge, 1),
+    ("draw_positions, t = 64", Name::DrawPositions, 64),
+    ("draw_positions, t = 256", Name::DrawPositions, 256),
+    ("draw_r", Name::DrawR, 1),
 ];
 
 /// Every call, and those that take points with 256 that are lent: then codewords are worked out by sums.
@@ -189,7 +210,9 @@ fn compare_call(line: &str, name: Name, list: &Honest, t: usize) {
     let mut by_plain = by_proved.clone();
     assert_eq!(by_plain.run(&PLAIN), by_plain.accepted());
     let proved = || black_box(&mut by_proved).run(&PROVED);
-    compare(line, 1, 1, proved, || black_box(&mut by_plain).run(&PLAIN));
+    // Drawing takes microseconds.
+    let calls = if matches!(name, Name::DrawChallenge | Name::DrawPositions | Name::DrawR) { 20 } else { 1 };
+    compare(line, calls, 1, proved, || black_box(&mut by_plain).run(&PLAIN));
     assert!(by_proved == by_plain, "{line}");
 }
 

@@ -1,10 +1,11 @@
 //! The plain calls beside the reference: without points and with points that are lent; with points that check 12 refuses,
-//! and first inputs that check 13 refuses, alone and with later checks failing too; verifying with each check failing.
-//! And the plain SHA-256 and the plain reader of sheets.
+//! and first inputs that check 13 refuses, alone and with later checks failing too; verifying and drawing with each check
+//! failing. And the plain SHA-256, running too, and the plain reader of sheets.
 
-use bench::{calls, plain, plain_sheet, points::differ};
+use bench::{calls, plain, plain_sheet, points::differ, running};
 use lomvuze_reference::sha256::{hash, Hashed};
 use lomvuze_reference::sheet::{self, write};
+use lomvuze_reference::tree;
 use lomvuze_samples::sheet::damage::failing;
 use lomvuze_samples::sheet::{accepted, Buffers, Shape};
 use lomvuze_samples::{library, points, Call, Comparison, Honest, Library, Name, Random, NAMES, REFERENCE};
@@ -45,6 +46,23 @@ fn verify() {
     comparison.finish(Name::Verify, 8);
 }
 
+/// Drawing, of the least and the greatest sizes and of others.
+#[test]
+fn draws() {
+    let mut random = Random::new(5);
+    for name in [Name::DrawChallenge, Name::DrawPositions, Name::DrawR] {
+        let mut comparison = Comparison::new(&PLAIN, &REFERENCE);
+        for (m, n, l, t) in [(0, 1, 1, 1), (1, 2, 2, 3), (2, 4, 5, 64), (3, 17, 7, 255), (6, 64, 8, 256)] {
+            for _ in 0..20 {
+                let list = Honest::random(&mut random, m, n, 64, l);
+                let call = Call::over(&mut random, name, list, t);
+                comparison.compare_checks(&mut random, &call);
+            }
+        }
+        comparison.finish(name, 100);
+    }
+}
+
 /// Digests and blocks of messages.
 #[test]
 fn hashes() {
@@ -53,7 +71,12 @@ fn hashes() {
         let message = random.bytes(length);
         let Hashed { digest, blocks } = hash(&message);
         assert_eq!(plain::sha256(&message), (digest, blocks), "{length} bytes");
+        for step in [1, 31, 32, 63, 64, 65, 100, 128, 129, length + 1] {
+            assert_eq!(running::hash(&message, step), digest, "{length} bytes by {step}");
+        }
     }
+    let (left, right) = (random.digest(), random.digest());
+    assert_eq!(running::node(&left, &right), tree::node(&left, &right));
 }
 
 #[test]

@@ -10,19 +10,23 @@
 //!
 //! In the order of use:
 //!
-//! - [`cast`]: an item from a circuit, public inputs and a witness
-//! - [`quotient`]: the quotient of up to 8 items and their witnesses, before a challenge is picked
+//! - [`encode`]: the codeword and root of a witness
+//! - [`draw_r`]: r of an item, from its root and public inputs
+//! - [`cast`]: an item from a circuit, r, public inputs and a witness
+//! - [`quotient`]: the quotient of up to 8 items and their witnesses, from which a challenge is drawn
+//! - [`draw_challenge`]: the challenge, from items and quotient
 //! - [`fold`]: quotient, new item and new witness for a challenge
+//! - [`draw_positions`]: the positions, from seed, challenge and the new item's root
 //! - [`open`]: the openings of one witness: to be called for each item's witness and for the new one, with
 //!   the same positions
 //! - [`verify`]: tests a fold, without circuit or witness, and counts the SHA-256 blocks that this takes
 //! - [`decide`]: tests one item, such as the last new one, with its circuit and witness
 //!
-//! And [`encode`], the codeword and root of a witness, [`interleave`], the openings in the order of a verifier in C,
-//! and [`read_sheet`], sizes, circuit, items and witnesses from a sheet of text.
+//! And [`interleave`], the openings in the order of a verifier in C, and [`read_sheet`], sizes, circuit, items and
+//! witnesses from a sheet of text.
 //!
-//! All but [`verify`], [`interleave`] and [`read_sheet`] take the evaluation points of the code: [`Points::built_in`], or
-//! the caller's own.
+//! [`encode`], [`cast`], [`quotient`], [`fold`], [`open`] and [`decide`] take the evaluation points of the code:
+//! [`Points::built_in`], or the caller's own.
 //!
 //! A call returns the [`Refusal`] of the first of its checks that fails; [`verify`] has it in the verdict of [`Verified`].
 //! Each check covers the whole input before the next one runs.
@@ -32,8 +36,8 @@
 //! The calls are about items. That a verdict on items is one about a ledger takes things that no call can test:
 //!
 //! - A fresh item has e = 0 ([`Item::is_fresh`]). Any other e is that of a fold which the caller verified.
-//! - r is picked after x and root are fixed, the challenge after items and quotient, the positions after items,
-//!   quotient and new item; none by who hands these in. At least k positions differ
+//! - r is drawn or picked after x and root are fixed, the challenge after items and quotient, the positions after items,
+//!   quotient and new item; none is picked by who hands these in. At least k positions differ
 //!   ([`Positions::count_different`]).
 //! - [`verify`] and [`decide`] get the same sizes and the same new item, [`decide`] the circuit that was agreed on, and
 //!   both accept: the verdict of [`verify`] counts, and its blocks say nothing about the items.
@@ -42,6 +46,24 @@
 //!   says which are covered.
 //! - Where a new item is folded again, the verdict on the upper fold is about that item. It reaches the items of the
 //!   lower fold only if that was verified with the very item that is folded above.
+//!
+//! ## What drawing settles
+//!
+//! [`draw_r`], [`draw_challenge`] and [`draw_positions`] draw by SHA-256 what a clearing house would otherwise pick and
+//! send. All other calls take such numbers lent, drawn or not. Where the clearing house draws them itself, from the very
+//! bytes that it verifies, nobody picks them, and they follow from what they test: r from root and x, the challenge from
+//! items and quotient, the positions from these, the challenge and the new item's root. Drawing does not settle
+//!
+//! - how many were tried. Who makes items, quotient or new root can change them and draw again, as often as wanted. For
+//!   two items or more, some 2^31 / ((l − 1) × (m + 2)) tries find a challenge at which a false item passes. No theorem is
+//!   about this: what many challenges show is stated of lent ones.
+//! - that a seed is that of the items and the quotient that are verified. Drawing alone makes a [`Seed`], but it may be that
+//!   of another fold.
+//! - that there are k different positions: drawn ones repeat.
+//! - circuit and points. They are in no draw, and are agreed on beforehand.
+//! - that an item's r is the drawn one: somebody compares it, or puts it in.
+//!
+//! All else that the caller sees to stays as it is.
 //!
 //! ## Types
 //!
@@ -53,6 +75,8 @@
 //!
 //! let _ = encode(2, &Points::built_in(), &Positions::from([2, 3])); // positions are no witness
 //! ```
+//!
+//! A [`Seed`] is made by drawing alone.
 //!
 //! ## Sizes
 //!
@@ -79,6 +103,7 @@
 
 mod buffers;
 mod calls;
+mod drawn;
 mod layout;
 mod lists;
 mod refusal;
@@ -86,6 +111,8 @@ mod sizes;
 mod values;
 
 pub use calls::{cast, decide, encode, fold, interleave, open, quotient, read_sheet, verify};
+pub use calls::{draw_challenge, draw_positions, draw_r};
+pub use drawn::{Drawn, Seed};
 pub use layout::{numbers_from_bytes, numbers_to_bytes};
 pub use lists::{Challenge, Points, Positions, PublicInputs, Quotient, Witness, R};
 pub use refusal::{NoCheck, Refusal};

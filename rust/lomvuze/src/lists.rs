@@ -156,8 +156,8 @@ lists! {
     /// ```
     Points;
 
-    /// r of an item: m elements, which give the weights of the rows. It is picked once x and root are fixed, and
-    /// not by whoever hands them in.
+    /// r of an item: m elements, which give the weights of the rows. It is [drawn](crate::draw_r) or picked once x and
+    /// root are fixed, and not picked by whoever hands them in.
     R;
 
     /// x of an item, the public inputs: n elements, of which the first is 1.
@@ -179,7 +179,8 @@ lists! {
     /// The quotient of a fold: (l − 1) × (m + 1) elements, the coefficient of X^0 first.
     Quotient;
 
-    /// The positions at which a fold is opened: 1 to 4k numbers below 4k, of which some may be equal.
+    /// The positions at which a fold is opened: 1 to 4k numbers below 4k, of which some may be equal. Those that are
+    /// [drawn](crate::draw_positions) repeat.
     Positions;
 }
 
@@ -210,8 +211,8 @@ impl Positions {
     }
 }
 
-/// The number at which items are folded: l to p − 1. It is picked once items and quotient are fixed, and not by
-/// whoever made them.
+/// The number at which items are folded: l to p − 1. It is [drawn](crate::draw_challenge) or picked once items and
+/// quotient are fixed, and not picked by whoever made them.
 ///
 /// ```
 /// use lomvuze::Challenge;

@@ -1,5 +1,6 @@
 //! What the types can do, as users expect it.
 
+use lomvuze::{draw_challenge, Drawn, Seed};
 use lomvuze::{Challenge, Circuit, Encoded, Entry, Folded, Item, NoCheck, Opening, Refusal, Sheet, Sizes};
 use lomvuze::{Points, Positions, PublicInputs, Quotient, Verified, Witness, R};
 use std::error::Error;
@@ -43,6 +44,7 @@ fn lists() {
 fn values() {
     value::<Challenge>();
     value::<Circuit>();
+    value::<Drawn>();
     value::<Encoded>();
     value::<Entry>();
     value::<Folded>();
@@ -50,6 +52,7 @@ fn values() {
     value::<NoCheck>();
     value::<Opening>();
     value::<Refusal>();
+    value::<Seed>();
     value::<Sheet>();
     value::<Sizes>();
     value::<Verified>();
@@ -65,6 +68,23 @@ fn verified() {
     assert_eq!(accepted, copy);
     assert_ne!(accepted, Verified { blocks: 62, ..accepted });
     assert_ne!(accepted, Verified { verdict: Err(Refusal::Combination), ..accepted });
+}
+
+/// A seed is read as bytes and as text, and is one of its own for other items.
+#[test]
+fn seeds() {
+    let seed = |x| {
+        let item = Item::new(R::default(), PublicInputs::from([1, x]), [7; 32]);
+        draw_challenge(Sizes { m: 0, n: 2, k: 2 }, &[item], &Quotient::default()).unwrap().seed
+    };
+    let (one, other) = (seed(6), seed(7));
+    assert_eq!(one, seed(6));
+    assert_ne!(one, other);
+    assert_ne!(one.as_bytes(), other.as_bytes());
+    let text = one.to_string();
+    let read = |i: usize| u8::from_str_radix(&text[2 * i..2 * i + 2], 16).unwrap();
+    assert_eq!(text.len(), 64);
+    assert_eq!(*one.as_bytes(), std::array::from_fn(read));
 }
 
 #[test]

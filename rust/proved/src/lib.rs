@@ -19,6 +19,9 @@ mod exported {
         pub fn lomvuze_test_leaf(position: *const u8, value: *const u8, length: usize, out: *mut u8) -> u32;
         pub fn lomvuze_test_node(left: *const u8, right: *const u8, out: *mut u8);
 
+        pub fn lomvuze_test_running(message: *const u8, length: usize, step: usize, out: *mut u8) -> u32;
+        pub fn lomvuze_test_running_node(left: *const u8, right: *const u8, out: *mut u8);
+
         pub fn lomvuze_test_root(values: *const u32, count: usize, depth: usize, out: *mut u8) -> u32;
         pub fn lomvuze_test_opening(
             values: *const u32,
@@ -115,6 +118,27 @@ pub fn leaf(position: &[u8; 4], value: &[u8], out: &mut Digest) -> u32 {
 pub fn node(left: &Digest, right: &Digest) -> Digest {
     let mut out = [0; 32];
     unsafe { lomvuze_test_node(left.as_ptr(), right.as_ptr(), out.as_mut_ptr()) };
+    out
+}
+
+// ---- The running hash.
+
+/// Feeds a message in by pieces of `step` bytes, of which the last may be shorter, and writes its digest. Answers 0, or 1
+/// where it refuses a step of 0.
+pub fn running(message: &[u8], step: usize, out: &mut Digest) -> u32 {
+    unsafe { lomvuze_test_running(message.as_ptr(), message.len(), step, out.as_mut_ptr()) }
+}
+
+/// The same for a message of 2^61 bytes or more, which is refused by its length: none of its bytes is read.
+pub fn running_of_length(length: usize, step: usize, out: &mut Digest) -> u32 {
+    assert!(length >= 1 << 61);
+    unsafe { lomvuze_test_running([0].as_ptr(), length, step, out.as_mut_ptr()) }
+}
+
+/// Feeds the byte 1 and two digests in: the digest of an inner node.
+pub fn running_node(left: &Digest, right: &Digest) -> Digest {
+    let mut out = [0; 32];
+    unsafe { lomvuze_test_running_node(left.as_ptr(), right.as_ptr(), out.as_mut_ptr()) };
     out
 }
 

@@ -18,10 +18,15 @@ use std::env;
 use world::{Target, World};
 
 /// The theorems, as file and name.
-const THEOREMS: [(&str, &str); 13] = [
+const THEOREMS: [(&str, &str); 18] = [
     ("theory/proofs/QuotientStated", "quotient-theorem"),
     ("theory/proofs/FirstStatement", "first-statement"),
     ("theory/proofs/SecondStatement", "second-statement"),
+    ("draw/proofs/DrawnStatement", "drawn-statement"),
+    ("draw/proofs/Permitted", "drawn-challenge-permitted"),
+    ("draw/proofs/Permitted", "drawn-positions-permitted"),
+    ("draw/proofs/Permitted", "drawn-r-fits"),
+    ("draw/proofs/Permitted", "drawn-r-below"),
     ("theory/proofs/LeadingOne", "verified-never-13"),
     ("theory/proofs/LeadingOne", "folded-never-13"),
     ("theory/proofs/BlockCount", "blocks-at-most"),
@@ -36,7 +41,8 @@ const THEOREMS: [(&str, &str); 13] = [
 
 /// The instance that the calls and both theorems are about.
 const INSTANCE: (&str, &str) = ("theory/specs/Fp", "fp");
-pub const EXPORTS: &str = "verdicts/src/lib";
+/// The files that export calls.
+const EXPORTS: [&str; 2] = ["verdicts/src/lib", "verdicts/src/drawing"];
 
 fn main() -> Result<(), String> {
     let root = env::args().nth(1).ok_or("usage: lomvuze-reading REPOSITORY")?;
@@ -49,13 +55,17 @@ fn main() -> Result<(), String> {
     };
     let instance = declared(INSTANCE)?;
     let mut roots = THEOREMS.into_iter().map(declared).collect::<Result<Vec<_>, _>>()?;
-    let functions = rattle::exported(&world.text(&world.path(EXPORTS))?);
-    for function in &functions {
-        let reached = reader.contract(EXPORTS, function)?;
-        roots.push(Root { name: function.name.clone(), reached });
+    let mut exports = vec![];
+    for key in EXPORTS {
+        let functions = rattle::exported(&world.text(&world.path(key))?);
+        for function in &functions {
+            let reached = reader.contract(key, function)?;
+            roots.push(Root { name: function.name.clone(), reached });
+        }
+        exports.push((key, functions));
     }
     let meanings = meanings::Meanings::read(&world.text("docs/reading-words.txt")?)?;
     let intro = world.text("docs/reading-intro.txt")?;
-    print!("{}", page::Page { reader: &reader, instance, roots, functions, meanings, intro }.write()?);
+    print!("{}", page::Page { reader: &reader, instance, roots, exports, meanings, intro }.write()?);
     Ok(())
 }

@@ -6,7 +6,6 @@ use crate::{
     reach::{Place, Reached, Reader, Root},
     text,
     world::Target,
-    EXPORTS,
 };
 use std::collections::{BTreeMap, BTreeSet};
 
@@ -14,7 +13,8 @@ pub struct Page<'a> {
     pub reader: &'a Reader<'a>,
     pub instance: Root,
     pub roots: Vec<Root>,
-    pub functions: Vec<Exported>,
+    /// The files that export calls, with their functions.
+    pub exports: Vec<(&'static str, Vec<Exported>)>,
     pub meanings: Meanings,
     /// The text before the definitions, with places for the counts and the words.
     pub intro: String,
@@ -124,18 +124,15 @@ impl Page<'_> {
 
     fn contracts(&self) -> Vec<String> {
         let mut out = vec!["## The exported calls".to_string(), String::new()];
-        out.push(format!("### {}", self.reader.world.path(EXPORTS)));
-        out.extend([
-            String::new(),
-            "The functions without their bodies.".into(),
-            String::new(),
-            "```text".into(),
-        ]);
-        for (i, function) in self.functions.iter().enumerate() {
-            out.extend(Some(String::new()).filter(|_| i > 0));
-            out.extend(function.comment.iter().chain(&function.lines).cloned());
+        out.extend(["The functions without their bodies.".into(), String::new()]);
+        for (key, functions) in &self.exports {
+            out.extend([format!("### {}", self.reader.world.path(key)), String::new(), "```text".into()]);
+            for (i, function) in functions.iter().enumerate() {
+                out.extend(Some(String::new()).filter(|_| i > 0));
+                out.extend(function.comment.iter().chain(&function.lines).cloned());
+            }
+            out.extend(["```".into(), String::new()]);
         }
-        out.extend(["```".into(), String::new()]);
         out
     }
 

@@ -40,6 +40,11 @@ pub(crate) fn length(buffer: &[u8], expected: usize) -> Result<(), Refusal> {
     check(2, buffer.len() == expected)
 }
 
+/// A digest that is lent has 32 bytes.
+pub(crate) fn digest(buffer: &[u8]) -> Result<Digest, Refusal> {
+    buffer.try_into().map_err(|_| 2)
+}
+
 /// m is 0 to 6.
 pub(crate) fn size_m(m: u32) -> Result<usize, Refusal> {
     within(m, 0..=6)

@@ -8,13 +8,15 @@
 //! - [`code`] — the points and the codeword of a witness
 //! - [`polynomial`] — polynomials over the field
 //! - [`claims`] — circuits, items, their value, the quotient and the fold
-//! - [`calls`] — the eight public calls over byte buffers, with their checks in order
+//! - [`draws`] — seed, challenge, positions and r, drawn by hash
+//! - [`calls`] — the eleven public calls over byte buffers, with their checks in order
 //! - [`sheet`] — the reader of sheets and the listing of their claims
 
 pub mod calls;
 mod checks;
 pub mod claims;
 pub mod code;
+pub mod draws;
 pub mod field;
 pub mod polynomial;
 pub mod sha256;

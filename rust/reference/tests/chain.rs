@@ -23,6 +23,19 @@ fn honest_lists_pass() {
     }
 }
 
+/// At drawn numbers: drawn again from the bytes that verifying is lent, they are the same.
+#[test]
+fn honest_lists_pass_at_drawn_numbers() {
+    let mut random = Random::new(6);
+    for _ in 0..60 {
+        let list = Honest::of_any_size(&mut random);
+        let t = 1 + random.below(12.min(4 * list.k as usize)) as u32;
+        let (seed, chain) = Chain::drawn(&REFERENCE, &list, t);
+        chain.assert_accepted(&REFERENCE, &list);
+        assert_eq!((seed, chain.challenge, chain.positions.clone()), chain.draw_again(&REFERENCE, &list));
+    }
+}
+
 #[test]
 fn all_positions_and_largest_sizes() {
     let mut random = Random::new(2);

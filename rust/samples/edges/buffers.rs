@@ -186,6 +186,7 @@ pub const OPEN: Call = Buffers::open;
 pub const INTERLEAVE: Call = Buffers::interleave;
 pub const VERIFY: Call = Buffers::verify;
 pub const DECIDE: Call = Buffers::decide;
+/// All but those that draw, which have buffers of their own.
 pub const ALL: [Call; 8] = [ENCODE, CAST, QUOTIENT, FOLD, OPEN, INTERLEAVE, VERIFY, DECIDE];
 
 /// The verdict of a call, and that a refusal writes nothing.
@@ -205,7 +206,7 @@ pub fn verdict(call: Call, change: impl Fn(&mut Buffers)) -> u32 {
     verdict_of(call, &buffers)
 }
 
-/// The verdicts of the eight calls after a change.
+/// The verdicts of these eight calls after a change.
 pub fn verdicts(change: impl Fn(&mut Buffers)) -> [u32; 8] {
     ALL.map(|call| verdict(call, &change))
 }

@@ -1,5 +1,5 @@
 //! The data of the examples: statements that a ledger's move balances. Eight of them, and their fold into one, for
-//! those in C; a sheet of twenty for that in Rust.
+//! those in C, with r, challenge and positions drawn; a sheet of twenty for that in Rust.
 //!
 //! Public inputs: 1, the total of two holdings, the payment, the price of a unit. Witness: both holdings
 //! before the move, both after it, the units moved, and three random numbers that the circuit does not use.
@@ -9,11 +9,14 @@
 use crate::{bytes, number_at, Chain, Honest, Random, REFERENCE};
 use lomvuze_reference::field::P;
 use lomvuze_reference::sheet::{self, Pair, Sheet};
+use std::collections::BTreeSet;
 
 const M: u32 = 2;
 const N: u32 = 4;
 const K: u32 = 8;
 const L: u32 = 8;
+/// Of 16 positions drawn of 4k = 32, some 13 are different; k at least have to be.
+const T: u32 = 16;
 
 const ONE: u32 = 0;
 const TOTAL: u32 = 1;
@@ -23,51 +26,41 @@ const BEFORE: [u32; 2] = [N, N + 1];
 const AFTER: [u32; 2] = [N + 2, N + 3];
 const UNITS: u32 = N + 4;
 
-/// The statements, and how they are folded.
-struct Plan {
-    list: Honest,
-    challenge: u32,
-    positions: Vec<u32>,
-}
-
-fn plan() -> Plan {
-    let mut random = Random::new(1);
-    let list = statements(&mut random, L);
-    let challenge = L + random.below((P - L) as usize) as u32;
-    let positions = (0..16).map(|_| random.below(4 * K as usize) as u32).collect();
-    Plan { list, challenge, positions }
-}
-
-impl Plan {
-    /// What both files start with: letters, sizes, circuit and items.
-    fn front(&self, letters: &[u8; 8]) -> Vec<u8> {
-        let Honest { a, b, c, items, .. } = &self.list;
-        let entries = [a, b, c].map(|entries| entries.len() as u32 / 12);
-        let sizes = bytes(&[M, N, K, L, self.positions.len() as u32, self.challenge]);
-        [&letters[..], &sizes, &bytes(&entries), a, b, c, items].concat()
+/// The eight statements. Each holds at every r, so that the one drawn from root and x is put in.
+fn eight() -> Honest {
+    let mut list = statements(&mut Random::new(1), L);
+    let length = list.item_length();
+    for item in list.items.chunks_mut(length) {
+        let (numbers, root) = item.split_at_mut(length - 32);
+        let (r, x) = numbers[4..].split_at_mut(4 * M as usize);
+        assert_eq!((REFERENCE.draw_r)(M, N, root, x, r), 0);
     }
+    list
+}
+
+/// What both files start with: letters, sizes, circuit and items.
+fn front(letters: &[u8; 8], list: &Honest) -> Vec<u8> {
+    let Honest { a, b, c, items, .. } = list;
+    let entries = [a, b, c].map(|entries| entries.len() as u32 / 12);
+    [&letters[..], &bytes(&[M, N, K, L, T]), &bytes(&entries), a, b, c, items].concat()
 }
 
 /// `statements.bin`, before the fold, as `examples/c/README.md` describes it.
 pub fn unfolded() -> Vec<u8> {
-    let plan = plan();
-    [&plan.front(b"lomvuze0")[..], &plan.list.witnesses, &bytes(&plan.positions)].concat()
+    let list = eight();
+    [&front(b"lomvuze2", &list)[..], &list.witnesses].concat()
 }
 
-/// `batch.bin`, the same statements folded, as `examples/c/README.md` describes it.
+/// `batch.bin`, the same statements folded with challenge and positions drawn, as `examples/c/README.md` describes
+/// it.
 pub fn folded() -> Vec<u8> {
-    let plan = plan();
-    let chain = Chain::new(&REFERENCE, &plan.list, plan.challenge, &plan.positions);
-    chain.assert_accepted(&REFERENCE, &plan.list);
-    [
-        &plan.front(b"lomvuze1")[..],
-        &chain.positions,
-        &chain.quotient,
-        &chain.new_item,
-        &chain.openings,
-        &chain.new_witness,
-    ]
-    .concat()
+    let list = eight();
+    let (_, chain) = Chain::drawn(&REFERENCE, &list, T);
+    chain.assert_accepted(&REFERENCE, &list);
+    let different: BTreeSet<&[u8]> = chain.positions.chunks(4).collect();
+    assert!(different.len() >= K as usize);
+    [&front(b"lomvuze3", &list)[..], &chain.quotient, &chain.new_item, &chain.openings, &chain.new_witness]
+        .concat()
 }
 
 /// `twenty.sheet`.

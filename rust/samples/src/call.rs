@@ -1,5 +1,6 @@
-//! Random calls of the eight: numbers, buffers that are read and buffers that are written.
+//! Random calls of the eleven: numbers, buffers that are read and buffers that are written.
 
+use crate::honest::element_bytes;
 use crate::instance::instance;
 use crate::name::Part::{self, *};
 use crate::{bytes, Chain, Honest, Library, Name, Random, REFERENCE};
@@ -50,8 +51,26 @@ impl Call {
                 let [points, a, b, c, item, wit] = &i[..] else { unreachable!() };
                 (by.decide)(n[0], n[1], n[2], points, a, b, c, item, wit)
             }
+            Name::DrawChallenge | Name::DrawPositions | Name::DrawR => self.draw(by),
         };
         verdict.into()
+    }
+
+    /// The same for the calls that draw.
+    fn draw(&mut self, by: &Library) -> u32 {
+        let (n, [first, second], o) = (&self.numbers, &self.inputs[..], &mut self.outputs[..]) else {
+            unreachable!()
+        };
+        match (self.name, o) {
+            (Name::DrawChallenge, [seed, challenge]) => {
+                (by.draw_challenge)(n[0], n[1], n[2], n[3], first, second, seed, challenge)
+            }
+            (Name::DrawPositions, [positions]) => {
+                (by.draw_positions)(n[0], n[1], n[2], n[3], first, second, positions)
+            }
+            (Name::DrawR, [r]) => (by.draw_r)(n[0], n[1], first, second, r),
+            _ => unreachable!(),
+        }
     }
 
     /// A call that is accepted, mostly of small sizes.
@@ -63,39 +82,7 @@ impl Call {
 
     /// A call that is accepted, for an honest list and with t positions. Its output buffers hold random bytes.
     pub fn over(random: &mut Random, name: Name, list: Honest, t: usize) -> Call {
-        let (m, n, k, l) = (list.m, list.n, list.k, list.l);
-        let a = match random.below(4) {
-            0 => l,
-            1 => P - 1,
-            _ => l + random.below((P - l) as usize) as u32,
-        };
-        let positions: Vec<u32> = (0..t).map(|_| random.below(4 * k as usize) as u32).collect();
-        let first = |part: &[u8], length: usize| part[..length].to_vec();
-        let w = first(&list.witnesses, list.witness_length());
-        let points = list.points.clone();
-        let circuit = [points.clone(), list.a.clone(), list.b.clone(), list.c.clone()];
-        let (numbers, inputs) = match name {
-            Name::Encode => (vec![k], vec![points, w]),
-            Name::Cast => (vec![m, n, k], [vec![points], instance(random, &list)].concat()),
-            Name::Quotient => (vec![m, n, k, l], [&circuit[..], &[list.items, list.witnesses]].concat()),
-            Name::Fold => (vec![m, n, k, l, a], [&circuit[..], &[list.items, list.witnesses]].concat()),
-            Name::Open => (vec![k, t as u32], vec![points, w, bytes(&positions)]),
-            // Any bytes of the right length are put in order.
-            Name::Interleave => {
-                let opened = random.bytes(t * (l as usize + 1) * list.opening_length());
-                (vec![k, l, t as u32], vec![opened])
-            }
-            Name::Verify => {
-                let chain = Chain::new(&REFERENCE, &list, a, &positions);
-                let inputs =
-                    vec![list.items, chain.positions, chain.quotient, chain.new_item, chain.openings];
-                (vec![m, n, k, l, t as u32, a], inputs)
-            }
-            Name::Decide => {
-                let item = first(&list.items, list.item_length());
-                (vec![m, n, k], [&circuit[..], &[item, w]].concat())
-            }
-        };
+        let (numbers, inputs) = arguments(random, name, list, t);
         let mut call = Call { name, numbers, inputs, outputs: vec![] };
         call.outputs = name.outputs().iter().map(|part| random.bytes(call.length(*part).unwrap())).collect();
         call
@@ -136,7 +123,8 @@ impl Call {
             Witness => 4 * k,
             Witnesses => l * 4 * k,
             Codeword => 16 * k,
-            Root => 32,
+            Root | Seed => 32,
+            Challenge => 4,
             Item => self.item_length(),
             Items => l * self.item_length(),
             Quotient => 4 * l.saturating_sub(1) * (m + 1),
@@ -157,7 +145,7 @@ impl Call {
                 .flat_map(|at| (0..item_numbers).map(move |j| at + 4 * j))
                 .collect(),
             AllOpenings => (0..length).step_by(self.opening_length()).collect(),
-            Points | Positions | Opened => vec![],
+            Points | Positions | Opened | Seed | Root => vec![],
             _ => (0..length).step_by(4).collect(),
         }
     }
@@ -170,6 +158,53 @@ impl Call {
                 (4 + 4 * self.number('m')..self.inputs[i].len()).step_by(self.item_length()).collect()
             }
             _ => vec![],
+        }
+    }
+}
+
+/// A challenge for l items: the least, the greatest, or any.
+fn challenge(random: &mut Random, l: u32) -> u32 {
+    match random.below(4) {
+        0 => l,
+        1 => P - 1,
+        _ => l + random.below((P - l) as usize) as u32,
+    }
+}
+
+/// The numbers and the inputs of a call over an honest list.
+fn arguments(random: &mut Random, name: Name, list: Honest, t: usize) -> (Vec<u32>, Vec<Vec<u8>>) {
+    let (m, n, k, l) = (list.m, list.n, list.k, list.l);
+    let a = challenge(random, l);
+    let positions: Vec<u32> = (0..t).map(|_| random.below(4 * k as usize) as u32).collect();
+    let item = list.items[..list.item_length()].to_vec();
+    let w = list.witnesses[..list.witness_length()].to_vec();
+    let points = list.points.clone();
+    let circuit = [points.clone(), list.a.clone(), list.b.clone(), list.c.clone()];
+    match name {
+        Name::Encode => (vec![k], vec![points, w]),
+        Name::Cast => (vec![m, n, k], [vec![points], instance(random, &list)].concat()),
+        Name::Quotient => (vec![m, n, k, l], [&circuit[..], &[list.items, list.witnesses]].concat()),
+        Name::Fold => (vec![m, n, k, l, a], [&circuit[..], &[list.items, list.witnesses]].concat()),
+        Name::Open => (vec![k, t as u32], vec![points, w, bytes(&positions)]),
+        // Any bytes of the right length are put in order.
+        Name::Interleave => {
+            (vec![k, l, t as u32], vec![random.bytes(t * (l as usize + 1) * list.opening_length())])
+        }
+        Name::Verify => {
+            let chain = Chain::new(&REFERENCE, &list, a, &positions);
+            let inputs = vec![list.items, chain.positions, chain.quotient, chain.new_item, chain.openings];
+            (vec![m, n, k, l, t as u32, a], inputs)
+        }
+        Name::Decide => (vec![m, n, k], [&circuit[..], &[item, w]].concat()),
+        // Of any quotient, seed and root.
+        Name::DrawChallenge => {
+            let quotient = random.elements(list.quotient_length() / 4);
+            (vec![m, n, k, l], vec![list.items, element_bytes(&quotient)])
+        }
+        Name::DrawPositions => (vec![k, l, t as u32, a], vec![random.bytes(32), random.bytes(32)]),
+        Name::DrawR => {
+            let (e_r_x, root) = item.split_at(item.len() - 32);
+            (vec![m, n], vec![root.to_vec(), e_r_x[4 + 4 * m as usize..].to_vec()])
         }
     }
 }

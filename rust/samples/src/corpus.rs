@@ -1,7 +1,9 @@
 //! The seeds of the fuzz targets: calls and sheets, honest and damaged, in the format that `fuzz/target.h`
 //! describes.
 
+mod drawing;
 mod openings;
+mod sizes;
 
 use crate::answer::verdict;
 use crate::sheet::{accepted, of_length, Buffers, Shape, GREATEST};
@@ -42,20 +44,8 @@ fn stored_calls(name: Name) -> Vec<(PathBuf, Vec<u8>)> {
         add(&check.to_string(), seed(&check.to_string(), &call).1);
     }
 
-    let takes_points = call.input_of(Part::Points).is_some();
-    let mut longer = call.clone();
-    longer.inputs[takes_points as usize].push(0);
-    add("2-longer", input(&longer));
-    let mut shorter = call.clone();
-    shorter.inputs.iter_mut().chain(&mut shorter.outputs).last().unwrap().pop();
-    add("2-shorter", input(&shorter));
-    // A size of 2^30 more gives the same lengths modulo 2^32.
-    for (i, size) in name.numbers().char_indices().filter(|(_, letter)| *letter != 'a') {
-        let mut content = input(&call);
-        put(&mut content, 4 * i, call.numbers[i] + (1 << 30));
-        add(&format!("2-{size}"), content);
-    }
-    if takes_points {
+    files.extend(sizes::stored(&call));
+    if call.input_of(Part::Points).is_some() {
         files.extend(stored_points(&mut random, name));
     }
     if name.checks().contains(&13) {
@@ -64,6 +54,7 @@ fn stored_calls(name: Name) -> Vec<(PathBuf, Vec<u8>)> {
     if name == Name::Verify {
         files.extend(openings::stored(&mut random));
     }
+    files.extend(drawing::stored(&mut random, name));
     files
 }
 
@@ -189,7 +180,7 @@ pub fn honest(count: usize) -> Vec<(PathBuf, Vec<u8>)> {
 }
 
 fn folder(name: Name) -> PathBuf {
-    format!("{name:?}").to_lowercase().into()
+    name.exported().into()
 }
 
 /// Random numbers for one folder, which stay as they are when another folder is added.

@@ -1,4 +1,4 @@
-//! The eight calls of one implementation, so that two can run the same call.
+//! The eleven calls of one implementation, so that two can run the same call.
 
 #![allow(clippy::type_complexity)]
 
@@ -16,9 +16,12 @@ pub struct Library {
     pub interleave: fn(u32, u32, u32, In, Out) -> u32,
     pub verify: fn(u32, u32, u32, u32, u32, u32, In, In, In, In, In) -> u64,
     pub decide: fn(u32, u32, u32, In, In, In, In, In, In) -> u32,
+    pub draw_challenge: fn(u32, u32, u32, u32, In, In, Out, Out) -> u32,
+    pub draw_positions: fn(u32, u32, u32, u32, In, In, Out) -> u32,
+    pub draw_r: fn(u32, u32, In, In, Out) -> u32,
 }
 
-/// The library of a module that has the eight calls.
+/// The library of a module that has the eleven calls.
 #[macro_export]
 macro_rules! library {
     ($calls:ident) => {
@@ -31,6 +34,9 @@ macro_rules! library {
             interleave: $calls::interleave,
             verify: $calls::verify,
             decide: $calls::decide,
+            draw_challenge: $calls::draw_challenge,
+            draw_positions: $calls::draw_positions,
+            draw_r: $calls::draw_r,
         }
     };
 }

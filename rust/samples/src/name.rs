@@ -1,4 +1,4 @@
-//! The eight calls: their checks, their numbers and their buffers.
+//! The eleven calls: their checks, their numbers and their buffers.
 
 #[derive(Clone, Copy, PartialEq, Eq, Hash, Debug)]
 pub enum Name {
@@ -10,9 +10,12 @@ pub enum Name {
     Interleave,
     Verify,
     Decide,
+    DrawChallenge,
+    DrawPositions,
+    DrawR,
 }
 
-pub const NAMES: [Name; 8] = [
+pub const NAMES: [Name; 11] = [
     Name::Encode,
     Name::Cast,
     Name::Quotient,
@@ -21,6 +24,9 @@ pub const NAMES: [Name; 8] = [
     Name::Interleave,
     Name::Verify,
     Name::Decide,
+    Name::DrawChallenge,
+    Name::DrawPositions,
+    Name::DrawR,
 ];
 
 /// What a buffer holds.
@@ -45,10 +51,24 @@ pub enum Part {
     Opened,
     /// Of all items and the new one, position by position.
     AllOpenings,
+    Seed,
+    Challenge,
 }
 use Part::*;
 
 impl Name {
+    /// The name of the exported call behind `lomvuze_`.
+    pub fn exported(self) -> String {
+        let mut name = String::new();
+        for letter in format!("{self:?}").chars() {
+            if letter.is_uppercase() && !name.is_empty() {
+                name.push('_');
+            }
+            name.extend(letter.to_lowercase());
+        }
+        name
+    }
+
     /// The checks that the call runs, in order.
     pub fn checks(self) -> &'static [u32] {
         match self {
@@ -60,6 +80,8 @@ impl Name {
             Name::Interleave => &[2],
             Name::Verify => &[2, 3, 13, 5, 6, 7, 8, 9],
             Name::Decide => &[2, 3, 12, 4, 13, 10, 11],
+            Name::DrawChallenge | Name::DrawR => &[2, 3, 13],
+            Name::DrawPositions => &[2, 5],
         }
     }
 
@@ -68,11 +90,13 @@ impl Name {
         match self {
             Name::Encode => "k",
             Name::Cast | Name::Decide => "mnk",
-            Name::Quotient => "mnkl",
+            Name::Quotient | Name::DrawChallenge => "mnkl",
             Name::Fold => "mnkla",
             Name::Open => "kt",
             Name::Interleave => "klt",
             Name::Verify => "mnklta",
+            Name::DrawPositions => "klta",
+            Name::DrawR => "mn",
         }
     }
 
@@ -86,6 +110,9 @@ impl Name {
             Name::Interleave => &[Opened],
             Name::Verify => &[Items, Positions, Quotient, Item, AllOpenings],
             Name::Decide => &[Points, Entries, Entries, Entries, Item, Witness],
+            Name::DrawChallenge => &[Items, Quotient],
+            Name::DrawPositions => &[Seed, Root],
+            Name::DrawR => &[Root, X],
         }
     }
 
@@ -99,6 +126,9 @@ impl Name {
             Name::Open => &[Openings],
             Name::Interleave => &[AllOpenings],
             Name::Verify | Name::Decide => &[],
+            Name::DrawChallenge => &[Seed, Challenge],
+            Name::DrawPositions => &[Positions],
+            Name::DrawR => &[R],
         }
     }
 }

@@ -89,6 +89,15 @@ calls! {
     /// Decides an item with its witness. Checks 2, 3, 12, 4, 13, 10 and 11.
     fn decide = lomvuze_decide(m, n, k; points, a, b, c, item, wit;) -> u32;
 
+    /// Draws the challenge of l items and a quotient, and writes the seed that it is drawn from too. Checks 2, 3 and 13.
+    fn draw_challenge = lomvuze_draw_challenge(m, n, k, l; items, quotient; seed_out, challenge_out) -> u32;
+
+    /// Draws t positions from the seed, the challenge and the root of the new item. Checks 2 and 5.
+    fn draw_positions = lomvuze_draw_positions(k, l, t, challenge; seed, root; positions_out) -> u32;
+
+    /// Draws the r of an item from its root and its x. Checks 2, 3 and 13.
+    fn draw_r = lomvuze_draw_r(m, n; root, x; r_out) -> u32;
+
     /// Reads a sheet into buffers of the greatest lengths; `sizes_out` gets m, n, k, the count of entries of A,
     /// B and C, and the count of pairs. Checks 1 to 4 and 13.
     fn read_sheet = lomvuze_read_sheet(; sheet; a_out, b_out, c_out, items_out, wits_out; sizes_out) -> u32;

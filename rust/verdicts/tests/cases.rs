@@ -124,3 +124,24 @@ fn c10() {
     assert_eq!(new_item, cast(6, [2, 3]).1);
     assert_eq!(witness, bytes(&[2, 3]));
 }
+
+/// What is drawn for the items and the quotient of C5, for its fold at this challenge, and for its first item with m = 3:
+/// worked out with Python's hashlib.
+#[test]
+fn c5_drawn() {
+    let items = [item(0, 6, [2, 3]), item(0, 20, [4, 5])].concat();
+    let (mut seed, mut challenge, mut positions, mut r) = ([0; 32], [0; 4], [0; 32], [0; 12]);
+    assert_eq!(calls::draw_challenge(0, 2, 2, 2, &items, &bytes(&[4]), &mut seed, &mut challenge), 0);
+    let hex: String = seed.iter().map(|byte| format!("{byte:02x}")).collect();
+    assert_eq!(hex, "baedf83ab276db00f443b051c3763310d590efe9229e72b986331db61635eb11");
+    assert_eq!(challenge, bytes(&[282522532])[..]);
+
+    let [_, new_item, w] = fold(282522532, &[(6, [2, 3]), (20, [4, 5])]);
+    assert_eq!(w, bytes(&[565045066, 565045067]));
+    let root_of_new = &new_item[ITEM - 32..];
+    assert_eq!(calls::draw_positions(2, 2, 8, 282522532, &seed, root_of_new, &mut positions), 0);
+    assert_eq!(positions, bytes(&[7, 7, 4, 4, 6, 5, 5, 7])[..]);
+
+    assert_eq!(calls::draw_r(3, 2, &root([2, 3]), &bytes(&[1, 6]), &mut r), 0);
+    assert_eq!(r, bytes(&[390671704, 173750123, 69702526])[..]);
+}

@@ -51,7 +51,7 @@ fn declared() -> BTreeMap<String, Prototype> {
 #[test]
 fn declared_as_in_the_header() {
     assert_eq!(declared(), prototypes(HEADER));
-    assert_eq!(declared().len(), 9);
+    assert_eq!(declared().len(), 12);
     let (answer, _) = &declared()["lomvuze_verify"];
     assert_eq!(answer, "uint64_t");
 }
@@ -66,6 +66,7 @@ fn changed_headers() {
         ("uint32_t lomvuze_encode(", "void lomvuze_encode("),
         ("uint32_t lomvuze_open(", "uint32_t lomvuze_opened("),
         ("const uint8_t *new_item, size_t new_item_len", "uint8_t *new_item, size_t new_item_len"),
+        ("uint8_t *seed_out, size_t seed_out_len", "const uint8_t *seed_out, size_t seed_out_len"),
     ];
     for (before, after) in changes {
         let changed = HEADER.replacen(before, after, 1);

@@ -65,6 +65,21 @@ fn decide() {
     random_calls(Name::Decide);
 }
 
+#[test]
+fn draw_challenge() {
+    random_calls(Name::DrawChallenge);
+}
+
+#[test]
+fn draw_positions() {
+    random_calls(Name::DrawPositions);
+}
+
+#[test]
+fn draw_r() {
+    random_calls(Name::DrawR);
+}
+
 /// The greatest sizes, 1,024 entries in each list, and the greatest count of positions, without points and with lent
 /// ones.
 #[test]
@@ -124,6 +139,29 @@ fn inputs_may_overlap() {
             let (mut code, mut root) = (vec![0; 16 * k as usize], [0; 32]);
             let w = &points[..4 * k as usize];
             ((by.encode)(k, &points, w, &mut code, &mut root), code, root)
+        });
+        assert_eq!(proved, reference);
+    }
+}
+
+/// The same in drawing: e and r of the first item as the quotient, one digest as seed and root, the first inputs as root.
+#[test]
+fn inputs_of_draws_may_overlap() {
+    let mut random = Random::new(13);
+    for _ in 0..100 {
+        let items = &Honest::random(&mut random, 1, 2, 2, 2).items;
+        let digest = &random.digest();
+        let x: Vec<u32> = random.inputs(8).iter().map(|input| input.number()).collect();
+        let x = &lomvuze_samples::bytes(&x);
+        let [proved, reference] = [PROVED, REFERENCE].map(|by| {
+            let (mut seed, mut challenge, mut positions, mut r) = ([0; 32], [0; 4], [0; 1024], [0; 24]);
+            let answers = [
+                (by.draw_challenge)(1, 2, 2, 2, items, &items[..8], &mut seed, &mut challenge),
+                (by.draw_positions)(64, 2, 256, 2, digest, digest, &mut positions),
+                (by.draw_r)(6, 8, x, x, &mut r),
+            ];
+            assert_eq!(answers, [0; 3]);
+            (seed, challenge, positions, r)
         });
         assert_eq!(proved, reference);
     }

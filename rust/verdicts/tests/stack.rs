@@ -98,8 +98,7 @@ fn measure(name: &str, accepted: u64, work: &mut dyn FnMut() -> u64) -> usize {
 }
 
 fn test(name: Name, mut call: Call) -> usize {
-    let named = format!("{name:?}").to_lowercase();
-    measure(&named, call.accepted(), &mut || call.run(&PROVED))
+    measure(&name.exported(), call.accepted(), &mut || call.run(&PROVED))
 }
 
 #[test]

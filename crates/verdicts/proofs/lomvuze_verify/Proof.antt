@@ -1,5 +1,4 @@
 -- `lomvuze_verify` meets its contract: verdict and count fit one number, since the count is small.
-use mathlib.Core.Path.{_≡_}
 use Prim.Native.Nat.{_≤_}
 use native.Mathlib.Omega.{arith}
 use Rattle.theory.proofs.BlockCount.{blocks-few}

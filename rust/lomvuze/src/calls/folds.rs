@@ -17,7 +17,7 @@ fn quotient_output(sizes: Sizes, l: usize) -> Vec<u8> {
 }
 
 /// The quotient of up to 8 items, each with its witness at the same place. [`fold`] gives it too; here it is there
-/// before a challenge is picked.
+/// before a challenge is [drawn](crate::draw_challenge) from it or picked.
 ///
 /// # Errors
 ///
@@ -74,7 +74,8 @@ pub fn quotient(
 /// Folds up to 8 items, each with its witness at the same place, at a challenge: their quotient, the new item
 /// and the new witness.
 ///
-/// The challenge, l to p − 1, is picked once items and [`quotient`] are fixed, and not by whoever made them.
+/// The challenge, l to p − 1, is [drawn](crate::draw_challenge) or picked once items and [`quotient`] are fixed, and not
+/// picked by whoever made them.
 ///
 /// # Errors
 ///
@@ -154,6 +155,7 @@ pub fn fold(
 
 /// Verifies a fold of up to 8 items, and counts the SHA-256 blocks that this takes: see [`Verified`]. It sees neither
 /// circuit nor witness: only together with [`decide`](crate::decide) of the same new item it is a verdict on the items.
+/// Whether challenge and positions are drawn ones is not tested: who verifies draws them first.
 ///
 /// `openings` has, for each item and last for the new item, what [`open`](crate::open) returned for its witness at
 /// the positions.

@@ -9,8 +9,8 @@ use std::slice::from_ref;
 /// The item of a claim: e = 0, r and x as given, and the root of the witness's codeword. Its value has to be
 /// 0, as it is for every r when every row of the circuit holds.
 ///
-/// That its value is 0 at one r does not say that every row holds: r is picked once x and root are fixed, and not by
-/// whoever hands them in.
+/// That its value is 0 at one r does not say that every row holds: r is [drawn](crate::draw_r) or picked once x and root
+/// are fixed, and not picked by whoever hands them in.
 ///
 /// # Errors
 ///

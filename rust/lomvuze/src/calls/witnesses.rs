@@ -44,8 +44,8 @@ pub fn encode(k: u32, points: &Points, witness: &Witness) -> Result<Encoded, Ref
 
 /// The openings of one witness's codeword at up to 4k positions, in the order of the positions.
 ///
-/// The positions are picked once items, quotient and new item are fixed, and not by whoever made them: at least k
-/// different ones ([`Positions::count_different`]).
+/// The positions are [drawn](crate::draw_positions) or picked once items, quotient and new item are fixed, and not picked
+/// by whoever made them: at least k different ones ([`Positions::count_different`]).
 ///
 /// # Errors
 ///

@@ -2,9 +2,10 @@
 
 use crate::longest::longest_buffer;
 use lomvuze::{cast, decide, encode, fold, interleave, open, quotient, verify};
+use lomvuze::{draw_challenge, draw_positions, draw_r};
 use lomvuze::{
-    Challenge, Circuit, Folded, Item, Opening, Points, Positions, PublicInputs, Refusal, Sizes, Verified,
-    Witness, R,
+    Challenge, Circuit, Folded, Item, Opening, Points, Positions, PublicInputs, Refusal, Seed, Sizes,
+    Verified, Witness, R,
 };
 
 /// A fold of two items with m = 1, n = 2, k = 4 and t = 3, with lent points and all else that a call takes. The circuit has no
@@ -22,6 +23,7 @@ pub struct Arguments {
     pub positions: Positions,
     pub folded: Folded,
     pub openings: Vec<Vec<Opening>>,
+    pub seed: Seed,
 }
 
 impl Arguments {
@@ -39,8 +41,21 @@ impl Arguments {
         let folded = fold(sizes, Challenge::from(100), &points, &circuit, &items, &witnesses)?;
         let opened = witnesses.iter().chain([&folded.witness]);
         let openings = opened.map(|w| open(4, &points, w, &positions)).collect::<Result<_, _>>()?;
-        let witness = witnesses[0].clone();
-        Ok(Arguments { sizes, points, circuit, r, x, witness, items, witnesses, positions, folded, openings })
+        let (witness, seed) = (witnesses[0].clone(), draw_challenge(sizes, &items, &folded.quotient)?.seed);
+        Ok(Arguments {
+            sizes,
+            points,
+            circuit,
+            r,
+            x,
+            witness,
+            items,
+            witnesses,
+            positions,
+            folded,
+            openings,
+            seed,
+        })
     }
 
     pub fn encode(&self) -> Result<(), Refusal> {
@@ -81,11 +96,25 @@ impl Arguments {
     pub fn decide(&self) -> Result<(), Refusal> {
         decide(self.sizes, &self.points, &self.circuit, &self.folded.item, &self.folded.witness)
     }
+
+    pub fn draw_challenge(&self) -> Result<(), Refusal> {
+        draw_challenge(self.sizes, &self.items, &self.folded.quotient).map(drop)
+    }
+
+    /// As many positions as there are.
+    pub fn draw_positions(&self) -> Result<(), Refusal> {
+        let (l, t, root) = (self.items.len(), self.positions.len(), &self.folded.item.root);
+        draw_positions(self.sizes.k, l, t, Challenge::from(100), &self.seed, root).map(drop)
+    }
+
+    pub fn draw_r(&self) -> Result<(), Refusal> {
+        draw_r(self.sizes, &self.folded.item.root, &self.x).map(drop)
+    }
 }
 
 pub type Call = fn(&Arguments) -> Result<(), Refusal>;
 
-pub const CALLS: [Call; 8] = [
+pub const CALLS: [Call; 11] = [
     Arguments::encode,
     Arguments::cast,
     Arguments::quotient,
@@ -94,6 +123,9 @@ pub const CALLS: [Call; 8] = [
     Arguments::interleave,
     Arguments::verify,
     Arguments::decide,
+    Arguments::draw_challenge,
+    Arguments::draw_positions,
+    Arguments::draw_r,
 ];
 
 /// No call here may ask for more. Where sizes or lists are very long, a buffer for them would be longer.
@@ -106,8 +138,8 @@ pub fn verdict(call: impl FnOnce() -> Result<(), Refusal>) -> u32 {
     result.map_or_else(Refusal::number, |()| 0)
 }
 
-/// The verdicts of the eight calls after a change.
-pub fn verdicts(change: impl Fn(&mut Arguments)) -> [u32; 8] {
+/// The verdicts of the eleven calls after a change.
+pub fn verdicts(change: impl Fn(&mut Arguments)) -> [u32; 11] {
     let mut arguments = Arguments::new().unwrap();
     change(&mut arguments);
     CALLS.map(|call| verdict(|| call(&arguments)))

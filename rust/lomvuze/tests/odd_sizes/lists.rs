@@ -13,27 +13,30 @@ fn lengths<T: Clone>(list: &[T]) -> [Vec<T>; 4] {
 fn lists_of_numbers() {
     let honest = Arguments::new().unwrap();
     for points in lengths(&honest.points).into_iter().filter(|points| !points.is_empty()) {
-        assert_eq!(verdicts(|all| all.points = points.clone().into()), [2, 2, 2, 2, 2, 0, 0, 2]);
+        assert_eq!(verdicts(|all| all.points = points.clone().into()), [2, 2, 2, 2, 2, 0, 0, 2, 0, 0, 0]);
     }
     for r in lengths(&honest.r) {
-        assert_eq!(verdicts(|all| all.r = r.clone().into()), [0, 2, 0, 0, 0, 0, 0, 0]);
+        assert_eq!(verdicts(|all| all.r = r.clone().into()), [0, 2, 0, 0, 0, 0, 0, 0, 0, 0, 0]);
     }
     for x in lengths(&honest.x) {
-        assert_eq!(verdicts(|all| all.x = x.clone().into()), [0, 2, 0, 0, 0, 0, 0, 0]);
+        assert_eq!(verdicts(|all| all.x = x.clone().into()), [0, 2, 0, 0, 0, 0, 0, 0, 0, 0, 2]);
     }
     for witness in lengths(&honest.witness) {
-        assert_eq!(verdicts(|all| all.witness = witness.clone().into()), [2, 2, 0, 0, 2, 0, 0, 0]);
+        let expected = [2, 2, 0, 0, 2, 0, 0, 0, 0, 0, 0];
+        assert_eq!(verdicts(|all| all.witness = witness.clone().into()), expected);
     }
     for quotient in lengths(&honest.folded.quotient) {
-        assert_eq!(verdicts(|all| all.folded.quotient = quotient.clone().into()), [0, 0, 0, 0, 0, 0, 2, 0]);
+        let expected = [0, 0, 0, 0, 0, 0, 2, 0, 2, 0, 0];
+        assert_eq!(verdicts(|all| all.folded.quotient = quotient.clone().into()), expected);
     }
     for witness in lengths(&honest.folded.witness) {
-        assert_eq!(verdicts(|all| all.folded.witness = witness.clone().into()), [0, 0, 0, 0, 0, 0, 0, 2]);
+        let expected = [0, 0, 0, 0, 0, 0, 0, 2, 0, 0, 0];
+        assert_eq!(verdicts(|all| all.folded.witness = witness.clone().into()), expected);
     }
     for count in [0, 17, 257, 1 << 18] {
         assert_eq!(
             verdicts(|all| change(&mut all.positions, |numbers| numbers.resize(count, 0))),
-            [0, 0, 0, 0, 2, 0, 2, 0],
+            [0, 0, 0, 0, 2, 0, 2, 0, 0, 2, 0],
             "t = {count}"
         );
     }
@@ -41,7 +44,7 @@ fn lists_of_numbers() {
     for count in [1, 2, 4, 16] {
         assert_eq!(
             verdicts(|all| change(&mut all.positions, |numbers| numbers.resize(count, 0))),
-            [0, 0, 0, 0, 0, 0, 2, 0],
+            [0, 0, 0, 0, 0, 0, 2, 0, 0, 0, 0],
             "t = {count}"
         );
     }
@@ -52,10 +55,10 @@ fn lists_of_numbers() {
 fn counts_of_points() {
     for count in [1, 4, 8, 32, 64, 256, 257] {
         let change = |all: &mut Arguments| all.points = (0..count).collect();
-        assert_eq!(verdicts(change), [2, 2, 2, 2, 2, 0, 0, 2], "{count} points");
+        assert_eq!(verdicts(change), [2, 2, 2, 2, 2, 0, 0, 2, 0, 0, 0], "{count} points");
     }
-    assert_eq!(verdicts(|all| all.points = Points::built_in()), [0, 0, 10, 10, 0, 0, 0, 10]);
-    assert_eq!(verdicts(|all| all.points[15] = 0), [12, 12, 12, 12, 12, 0, 0, 12]);
+    assert_eq!(verdicts(|all| all.points = Points::built_in()), [0, 0, 10, 10, 0, 0, 0, 10, 0, 0, 0]);
+    assert_eq!(verdicts(|all| all.points[15] = 0), [12, 12, 12, 12, 12, 0, 0, 12, 0, 0, 0]);
 }
 
 #[test]
@@ -63,24 +66,26 @@ fn lists_of_entries() {
     let entry = Entry { row: 0, column: 0, value: 0 };
     for count in [MAX_ENTRIES + 1, 1 << 18] {
         let long = vec![entry; count];
-        assert_eq!(verdicts(|all| all.circuit.a.clone_from(&long)), [0, 2, 2, 2, 0, 0, 0, 2]);
-        assert_eq!(verdicts(|all| all.circuit.b.clone_from(&long)), [0, 2, 2, 2, 0, 0, 0, 2]);
-        assert_eq!(verdicts(|all| all.circuit.c.clone_from(&long)), [0, 2, 2, 2, 0, 0, 0, 2]);
+        assert_eq!(verdicts(|all| all.circuit.a.clone_from(&long)), [0, 2, 2, 2, 0, 0, 0, 2, 0, 0, 0]);
+        assert_eq!(verdicts(|all| all.circuit.b.clone_from(&long)), [0, 2, 2, 2, 0, 0, 0, 2, 0, 0, 0]);
+        assert_eq!(verdicts(|all| all.circuit.c.clone_from(&long)), [0, 2, 2, 2, 0, 0, 0, 2, 0, 0, 0]);
     }
 }
 
 #[test]
 fn counts_of_items_witnesses_and_openings() {
     let honest = Arguments::new().unwrap();
-    for items in lengths(&honest.items) {
-        assert_eq!(verdicts(|all| all.items.clone_from(&items)), [0, 0, 2, 2, 0, 0, 2, 0]);
+    // Positions are drawn for three items and for one.
+    for (items, positions) in lengths(&honest.items).into_iter().zip([0, 0, 2, 2]) {
+        let expected = [0, 0, 2, 2, 0, 0, 2, 0, 2, positions, 0];
+        assert_eq!(verdicts(|all| all.items.clone_from(&items)), expected);
     }
     for witnesses in lengths(&honest.witnesses) {
-        assert_eq!(verdicts(|all| all.witnesses.clone_from(&witnesses)), [0, 0, 2, 2, 0, 0, 0, 0]);
+        assert_eq!(verdicts(|all| all.witnesses.clone_from(&witnesses)), [0, 0, 2, 2, 0, 0, 0, 0, 0, 0, 0]);
     }
     // Openings of two or four witnesses are put in order, as those of a fold of one or three items.
     for (openings, interleaved) in lengths(&honest.openings).into_iter().zip([0, 0, 2, 2]) {
-        let expected = [0, 0, 0, 0, 0, interleaved, 2, 0];
+        let expected = [0, 0, 0, 0, 0, interleaved, 2, 0, 0, 0, 0];
         assert_eq!(verdicts(|all| all.openings.clone_from(&openings)), expected);
     }
     let nine = |all: &mut Arguments| {
@@ -89,7 +94,7 @@ fn counts_of_items_witnesses_and_openings() {
         all.openings = vec![all.openings[0].clone(); MAX_L + 2];
         all.folded.quotient = [0; 2 * MAX_L].into();
     };
-    assert_eq!(verdicts(nine), [0, 0, 2, 2, 0, 2, 2, 0]);
+    assert_eq!(verdicts(nine), [0, 0, 2, 2, 0, 2, 2, 0, 2, 2, 0]);
 }
 
 #[test]
@@ -97,30 +102,36 @@ fn parts_of_items_witnesses_and_openings() {
     let honest = Arguments::new().unwrap();
     for i in 0..2 {
         for r in lengths(&honest.items[i].r) {
-            assert_eq!(verdicts(|all| all.items[i].r = r.clone().into()), [0, 0, 2, 2, 0, 0, 2, 0]);
+            let expected = [0, 0, 2, 2, 0, 0, 2, 0, 2, 0, 0];
+            assert_eq!(verdicts(|all| all.items[i].r = r.clone().into()), expected);
         }
         for x in lengths(&honest.items[i].x) {
-            assert_eq!(verdicts(|all| all.items[i].x = x.clone().into()), [0, 0, 2, 2, 0, 0, 2, 0]);
+            let expected = [0, 0, 2, 2, 0, 0, 2, 0, 2, 0, 0];
+            assert_eq!(verdicts(|all| all.items[i].x = x.clone().into()), expected);
         }
         for witness in lengths(&honest.witnesses[i]) {
-            assert_eq!(verdicts(|all| all.witnesses[i] = witness.clone().into()), [0, 0, 2, 2, 0, 0, 0, 0]);
+            let expected = [0, 0, 2, 2, 0, 0, 0, 0, 0, 0, 0];
+            assert_eq!(verdicts(|all| all.witnesses[i] = witness.clone().into()), expected);
         }
     }
     for r in lengths(&honest.folded.item.r) {
-        assert_eq!(verdicts(|all| all.folded.item.r = r.clone().into()), [0, 0, 0, 0, 0, 0, 2, 2]);
+        let expected = [0, 0, 0, 0, 0, 0, 2, 2, 0, 0, 0];
+        assert_eq!(verdicts(|all| all.folded.item.r = r.clone().into()), expected);
     }
     for x in lengths(&honest.folded.item.x) {
-        assert_eq!(verdicts(|all| all.folded.item.x = x.clone().into()), [0, 0, 0, 0, 0, 0, 2, 2]);
+        let expected = [0, 0, 0, 0, 0, 0, 2, 2, 0, 0, 0];
+        assert_eq!(verdicts(|all| all.folded.item.x = x.clone().into()), expected);
     }
     for i in 0..3 {
         for openings in lengths(&honest.openings[i]) {
-            assert_eq!(verdicts(|all| all.openings[i].clone_from(&openings)), [0, 0, 0, 0, 0, 2, 2, 0]);
+            let expected = [0, 0, 0, 0, 0, 2, 2, 0, 0, 0, 0];
+            assert_eq!(verdicts(|all| all.openings[i].clone_from(&openings)), expected);
         }
         for q in 0..3 {
             for path in lengths(&honest.openings[i][q].path) {
                 assert_eq!(
                     verdicts(|all| all.openings[i][q].path.clone_from(&path)),
-                    [0, 0, 0, 0, 0, 2, 2, 0]
+                    [0, 0, 0, 0, 0, 2, 2, 0, 0, 0, 0]
                 );
             }
         }
@@ -137,24 +148,24 @@ fn move_to_r(item: &mut Item) {
 
 #[test]
 fn numbers_at_a_neighbour() {
-    assert_eq!(verdicts(|all| all.items.iter_mut().for_each(move_to_r)), [0, 0, 2, 2, 0, 0, 2, 0]);
-    assert_eq!(verdicts(|all| move_to_r(&mut all.folded.item)), [0, 0, 0, 0, 0, 0, 2, 2]);
+    assert_eq!(verdicts(|all| all.items.iter_mut().for_each(move_to_r)), [0, 0, 2, 2, 0, 0, 2, 0, 2, 0, 0]);
+    assert_eq!(verdicts(|all| move_to_r(&mut all.folded.item)), [0, 0, 0, 0, 0, 0, 2, 2, 0, 0, 0]);
 
     let witness = |all: &mut Arguments| {
         let [first, second] = &mut all.witnesses[..] else { unreachable!() };
         change(first, |from| change(second, |to| to.insert(0, from.pop().unwrap())));
     };
-    assert_eq!(verdicts(witness), [0, 0, 2, 2, 0, 0, 0, 0]);
+    assert_eq!(verdicts(witness), [0, 0, 2, 2, 0, 0, 0, 0, 0, 0, 0]);
 
     let opening = |all: &mut Arguments| {
         let last = all.openings[0].pop().unwrap();
         all.openings[1].insert(0, last);
     };
-    assert_eq!(verdicts(opening), [0, 0, 0, 0, 0, 2, 2, 0]);
+    assert_eq!(verdicts(opening), [0, 0, 0, 0, 0, 2, 2, 0, 0, 0, 0]);
 
     let digest = |all: &mut Arguments| {
         let last = all.openings[0][0].path.pop().unwrap();
         all.openings[1][0].path.insert(0, last);
     };
-    assert_eq!(verdicts(digest), [0, 0, 0, 0, 0, 2, 2, 0]);
+    assert_eq!(verdicts(digest), [0, 0, 0, 0, 0, 2, 2, 0, 0, 0, 0]);
 }

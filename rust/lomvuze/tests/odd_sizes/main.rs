@@ -7,28 +7,45 @@ mod lists;
 mod longest;
 
 use arguments::{change, verdict, verdicts, Arguments};
-use lomvuze::{read_sheet, Opening, Sizes};
+use lomvuze::{draw_positions, read_sheet, Challenge, Opening, Sizes};
 
 #[test]
 fn all_are_accepted_before_a_change() {
-    assert_eq!(verdicts(|_| ()), [0; 8]);
+    assert_eq!(verdicts(|_| ()), [0; 11]);
 }
 
 // ---- Sizes that are not permitted, or not those of the buffers
 
 #[test]
 fn sizes() {
-    for k in [0, 1, 2, 3, 5, 8, 64, 65, 128, 1 << 16, 1 << 30, 1 << 31, u32::MAX] {
-        assert_eq!(verdicts(|all| all.sizes.k = k), [2; 8], "k = {k}");
+    for k in [0, 1, 3, 5, 65, 128, 1 << 16, 1 << 30, 1 << 31, u32::MAX] {
+        assert_eq!(verdicts(|all| all.sizes.k = k), [2, 2, 2, 2, 2, 2, 2, 2, 2, 2, 0], "k = {k}");
     }
-    for m in [0, 2, 6, 7, 31, 32, 63, 64, 1 << 30, u32::MAX] {
-        assert_eq!(verdicts(|all| all.sizes.m = m), [0, 2, 2, 2, 0, 0, 2, 2], "m = {m}");
+    // No buffer of a call that draws depends on k, and that of r alone depends on m.
+    for k in [2, 8, 64] {
+        assert_eq!(verdicts(|all| all.sizes.k = k), [2, 2, 2, 2, 2, 2, 2, 2, 0, 0, 0], "k = {k}");
+    }
+    for (m, drawing_r) in [(0, 0), (2, 0), (6, 0), (7, 2), (31, 2), (64, 2), (1 << 30, 2), (u32::MAX, 2)] {
+        let expected = [0, 2, 2, 2, 0, 0, 2, 2, 2, 0, drawing_r];
+        assert_eq!(verdicts(|all| all.sizes.m = m), expected, "m = {m}");
     }
     for n in [0, 1, 3, 64, 65, 1 << 30, u32::MAX] {
-        assert_eq!(verdicts(|all| all.sizes.n = n), [0, 2, 2, 2, 0, 0, 2, 2], "n = {n}");
+        assert_eq!(verdicts(|all| all.sizes.n = n), [0, 2, 2, 2, 0, 0, 2, 2, 2, 0, 2], "n = {n}");
     }
     for size in [0, u32::MAX] {
-        assert_eq!(verdicts(|all| all.sizes = Sizes { m: size, n: size, k: size }), [2; 8]);
+        assert_eq!(verdicts(|all| all.sizes = Sizes { m: size, n: size, k: size }), [2; 11]);
+    }
+}
+
+/// Counts that no list has: those above 32 bits are not taken modulo 2^32.
+#[test]
+fn counts() {
+    let all = Arguments::new().unwrap();
+    let (root, challenge) = (&all.folded.item.root, Challenge::from(100));
+    let draw = |l, t| verdict(|| draw_positions(4, l, t, challenge, &all.seed, root).map(drop));
+    assert_eq!([draw(1, 1), draw(8, 16)], [0, 0]);
+    for count in [0, 17, 1 << 30, 1 << 32, (1 << 32) + 1, usize::MAX] {
+        assert_eq!([draw(count, 1), draw(1, count)], [2, 2], "{count}");
     }
 }
 
@@ -46,7 +63,7 @@ fn fitting_lists() {
             all.positions = [0; 256].into();
             all.openings = vec![vec![opening; 256]; 3];
         };
-        assert_eq!(verdicts(changed), [2; 8], "k = {k}");
+        assert_eq!(verdicts(changed), [2, 2, 2, 2, 2, 2, 2, 2, 2, 2, 0], "k = {k}");
     }
     for m in [7, 64, 1 << 18] {
         let changed = |all: &mut Arguments| {
@@ -58,7 +75,7 @@ fn fitting_lists() {
             }
             change(&mut all.folded.quotient, |numbers| numbers.resize(m as usize + 1, 0));
         };
-        assert_eq!(verdicts(changed), [0, 2, 2, 2, 0, 0, 2, 2], "m = {m}");
+        assert_eq!(verdicts(changed), [0, 2, 2, 2, 0, 0, 2, 2, 2, 0, 2], "m = {m}");
     }
     for n in [0, 65, 1 << 18] {
         let changed = |all: &mut Arguments| {
@@ -69,7 +86,7 @@ fn fitting_lists() {
                 change(x, |numbers| numbers.resize(n as usize, 1));
             }
         };
-        assert_eq!(verdicts(changed), [0, 2, 2, 2, 0, 0, 2, 2], "n = {n}");
+        assert_eq!(verdicts(changed), [0, 2, 2, 2, 0, 0, 2, 2, 2, 0, 2], "n = {n}");
     }
     for t in [0, 17, 257, 1 << 12] {
         let changed = |all: &mut Arguments| {
@@ -77,7 +94,7 @@ fn fitting_lists() {
             change(&mut all.positions, |numbers| numbers.resize(t, 0));
             all.openings.iter_mut().for_each(|of_one| of_one.resize(t, opening.clone()));
         };
-        assert_eq!(verdicts(changed), [0, 0, 0, 0, 2, 2, 2, 0], "t = {t}");
+        assert_eq!(verdicts(changed), [0, 0, 0, 0, 2, 2, 2, 0, 0, 2, 0], "t = {t}");
     }
 }
 

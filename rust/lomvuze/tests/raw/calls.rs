@@ -1,13 +1,13 @@
 //! The crate's calls with the arguments of the library's own, so that both can run the same call.
 //!
 //! What cannot be said to the crate's calls is answered here, as check 2 does: an input that is no whole
-//! numbers, entries, items, witnesses or openings; l or t that is not the count of items or positions; and
+//! numbers, entries, items, witnesses, openings or digests; l or t that is not the count of items or positions; and
 //! the length of an output buffer. Verifying answers verdict and blocks in one number, as the library does.
 
 #![allow(clippy::too_many_arguments)]
 
 use crate::layout::*;
-use lomvuze::{Opening, Positions, Sizes, Verified};
+use lomvuze::{Opening, Positions, Seed, Sizes, Verified};
 use lomvuze_samples::bytes;
 
 pub fn encode(k: u32, points: &[u8], w: &[u8], code_out: &mut [u8], root_out: &mut [u8]) -> u32 {
@@ -164,5 +164,53 @@ pub fn decide(
         let sizes = Sizes { m, n, k };
         let (points, circuit) = (numbers(points)?, circuit(a, b, c)?);
         lomvuze::decide(sizes, &points, &circuit, &item(sizes, item_in)?, &numbers(wit)?)
+    })
+}
+
+pub fn draw_challenge(
+    m: u32,
+    n: u32,
+    k: u32,
+    l: u32,
+    items_in: &[u8],
+    quotient: &[u8],
+    seed_out: &mut [u8],
+    challenge_out: &mut [u8],
+) -> u32 {
+    answer(|| {
+        let sizes = Sizes { m, n, k };
+        check_2(seed_out.len() == 32 && challenge_out.len() == 4)?;
+        let drawn = lomvuze::draw_challenge(sizes, &items(sizes, l, items_in)?, &numbers(quotient)?)?;
+        seed_out.copy_from_slice(drawn.seed.as_bytes());
+        challenge_out.copy_from_slice(&bytes(&[drawn.challenge.into()]));
+        Ok(())
+    })
+}
+
+pub fn draw_positions(
+    k: u32,
+    l: u32,
+    t: u32,
+    challenge: u32,
+    seed: &[u8],
+    root: &[u8],
+    positions_out: &mut [u8],
+) -> u32 {
+    answer(|| {
+        let (seed, root, t) = (Seed::lent(digest(seed)?), digest(root)?, t as usize);
+        check_2(positions_out.len() == 4 * t)?;
+        let positions = lomvuze::draw_positions(k, l as usize, t, challenge.into(), &seed, &root)?;
+        positions_out.copy_from_slice(&bytes(&positions));
+        Ok(())
+    })
+}
+
+/// The crate does not look at k.
+pub fn draw_r(m: u32, n: u32, root: &[u8], x: &[u8], r_out: &mut [u8]) -> u32 {
+    answer(|| {
+        check_2(r_out.len() == 4 * m as usize)?;
+        let r = lomvuze::draw_r(Sizes { m, n, k: 0 }, &digest(root)?, &numbers(x)?)?;
+        r_out.copy_from_slice(&bytes(&r));
+        Ok(())
     })
 }

@@ -44,8 +44,8 @@ pub fn circuit(a: &[u8], b: &[u8], c: &[u8]) -> Result<Circuit, Refusal> {
     Ok(Circuit { a: entries(a)?, b: entries(b)?, c: entries(c)? })
 }
 
-fn digest(part: &[u8]) -> Digest {
-    part.try_into().unwrap()
+pub fn digest(buffer: &[u8]) -> Result<Digest, Refusal> {
+    buffer.try_into().map_err(|_| Refusal::Sizes)
 }
 
 pub fn items(sizes: Sizes, l: u32, buffer: &[u8]) -> Result<Vec<Item>, Refusal> {
@@ -54,7 +54,7 @@ pub fn items(sizes: Sizes, l: u32, buffer: &[u8]) -> Result<Vec<Item>, Refusal> 
     let parts = parts(buffer, root + 32)?;
     check_2(parts.len() == l as usize)?;
     let item = |part: &[u8]| {
-        let mut item = Item::new(numbers(&part[4..x])?, numbers(&part[x..root])?, digest(&part[root..]));
+        let mut item = Item::new(numbers(&part[4..x])?, numbers(&part[x..root])?, digest(&part[root..])?);
         item.e = number_at(part, 0);
         Ok(item)
     };
@@ -70,9 +70,11 @@ pub fn witnesses(k: u32, buffer: &[u8]) -> Result<Vec<Witness>, Refusal> {
 }
 
 pub fn openings(sizes: Sizes, buffer: &[u8]) -> Result<Vec<Opening>, Refusal> {
-    let opening =
-        |part: &[u8]| Opening { value: number_at(part, 0), path: part[4..].chunks(32).map(digest).collect() };
-    Ok(parts(buffer, sizes.opening_bytes())?.into_iter().map(opening).collect())
+    let opening = |part: &[u8]| {
+        let path = part[4..].chunks(32).map(digest).collect::<Result<_, _>>()?;
+        Ok(Opening { value: number_at(part, 0), path })
+    };
+    parts(buffer, sizes.opening_bytes())?.into_iter().map(opening).collect()
 }
 
 /// From position by position to item by item, as the crate takes them.

@@ -4,7 +4,7 @@
 //! `cargo test --release --offline -p lomvuze --test raw -- --nocapture` prints how many calls had which verdict, and how
 //! many sheets which answer.
 
-use lomvuze::{Sizes, MAX_SHEET};
+use lomvuze::{Positions, Sizes, MAX_SHEET};
 use lomvuze_reference::sheet::{write, Reading};
 use lomvuze_samples::sheet::damage::{damaged, failing, junk};
 use lomvuze_samples::sheet::{accepted, of_length, Buffers, Shape, GREATEST};
@@ -88,6 +88,22 @@ fn blocks() {
     }
     for k in [0, 1, 3, 63, 65, 128, 1 << 31, u32::MAX] {
         assert_eq!(Sizes { m: 1, n: 2, k }.verify_blocks(1, 1), 0, "k = {k}");
+    }
+}
+
+/// Chains with drawn challenges and 4k drawn positions, of which k at least are different: the same bytes, and both
+/// accept.
+#[test]
+fn drawn_chains() {
+    let mut random = Random::new(6);
+    for _ in 0..50 {
+        let list = Honest::of_any_size(&mut random);
+        let (seed, chain) = Chain::drawn(&CRATE, &list, 4 * list.k);
+        assert!(Chain::drawn(&LIBRARY, &list, 4 * list.k) == (seed, chain.clone()), "{list:?}");
+        chain.assert_accepted(&CRATE, &list);
+        chain.assert_accepted(&LIBRARY, &list);
+        let positions = Positions::from_bytes(&chain.positions).unwrap();
+        assert!(positions.count_different() >= list.k as usize, "{positions}");
     }
 }
 

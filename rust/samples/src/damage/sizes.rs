@@ -1,6 +1,6 @@
 //! Damage to sizes and lengths.
 
-use crate::{Call, Part, Random};
+use crate::{Call, Name, Part, Random};
 
 impl Call {
     /// A size that is not permitted, with buffers that fit it; a size that does not fit the buffers; or a
@@ -22,8 +22,8 @@ impl Call {
                 self.fit();
             }
             1 => {
-                let other = [self.numbers[i].wrapping_sub(1), self.numbers[i] + 1, u32::MAX, 1 << 31];
-                self.numbers[i] = other[random.below(4)];
+                let [fewer, more] = self.unfit(i);
+                self.numbers[i] = [fewer, more, u32::MAX, 1 << 31][random.below(4)];
             }
             2 if self.input_of(Part::Points).is_some() => self.fail_points_length(random),
             _ => {
@@ -39,6 +39,14 @@ impl Call {
                     buffer.resize(length + [1, 3, 11][random.below(3)], 0);
                 }
             }
+        }
+    }
+
+    /// Two sizes that do not fit the buffers, in the place of size i. Drawing positions has no buffer for l items.
+    fn unfit(&self, i: usize) -> [u32; 2] {
+        match self.name {
+            Name::DrawPositions if self.place_of('l') == Some(i) => [0, 9],
+            _ => [self.numbers[i].wrapping_sub(1), self.numbers[i] + 1],
         }
     }
 

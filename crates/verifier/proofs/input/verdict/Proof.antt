@@ -4,12 +4,8 @@ use mathlib.Core.Bool.{true}
 use mathlib.Core.List.{[], _∷_}
 use Prim.Native.Nat.{suc, _*_}
 use native.Mathlib.Omega.{arith}
-use borrow.Author.Tests.{ltb-true}
-use lib.Dec.{leb, ltb}
-use lib.Seq.{length-take-le}
 use Rattle.algebra.specs.Lists.{All}
-use Rattle.numbers.proofs.Tests.{and-right, each-true}
-use Rattle.field.specs.BabyBear.{p}
+use Rattle.numbers.proofs.Tests.{each-true}
 use Rattle.code.specs.Points.{depth}
 use Rattle.theory.specs.Sizes.{elementsBelow}
 use Rattle.theory.specs.Fp.{itemBelow, itemsBelow, openedBelow, verifyFits}

@@ -1,6 +1,5 @@
 -- `verify::verify` meets its contract: where the checks of the input refuse, nothing is hashed; else the others decide.
-use mathlib.Core.Path.{_≡_, sym, _∙_}
-use mathlib.Core.Bool.{true}
+use mathlib.Core.Path.{sym, _∙_}
 use mathlib.Core.List.{[], _∷_}
 use Prim.Native.Nat.{suc, _*_}
 use native.Mathlib.Omega.{arith}

@@ -1,0 +1,4 @@
+pub mod Bounds
+pub mod Passed
+pub mod Permitted
+pub mod DrawnStatement
