@@ -101,7 +101,7 @@ uninstall:
 test:
 	bash .ci/run
 
-# The proved library's speed beside plain Rust.
+# The proved library's speed, and that of OpenSSL's SHA-256, beside plain Rust.
 bench: $(staticlib)/libharness.a $(staticlib)/libverdicts.a
 	cargo run --release --offline --manifest-path rust/Cargo.toml -p bench
 

@@ -10,7 +10,7 @@ use Rattle.hash.specs.Sha256.{digest}
 use Rattle.numbers.specs.Numbers.{numbers, bytes4, allBelow}
 use Rattle.numbers.proofs.Bytes.{number4-bytes4}
 use Rattle.tree.specs.Layout.{openingSize, flat, ownOpening, ownOpenings}
-use Rattle.tree.proofs.Levels.{few}
+use Rattle.tree.proofs.Places.{few}
 
 -- the bytes of one position hold it alone
 pub one-position : (b : List ℕ) (p : ℕ) → p < 2 ^ 32 → b ≡ bytes4 p → numbers b ≡ p ∷ []

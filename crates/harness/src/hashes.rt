@@ -1,9 +1,9 @@
-// SHA-256, the leaf and the inner node of a hash tree, and a running hash.
+// SHA-256, the leaf and the inner node of a hash tree, four messages side by side, and a running hash.
 ghost use mathlib.Core.Path.{_≡_};
 ghost use mathlib.Core.List.{[], _∷_, _++_};
-ghost use Prim.Native.Nat.{_^_, _<_};
-ghost use lib.ListN.{length};
-ghost use Rattle.hash.specs.Sha256.{blockCount, digest};
+ghost use Prim.Native.Nat.{ℕ, _%_, _^_, _<_};
+ghost use lib.ListN.{length, getD};
+ghost use Rattle.hash.specs.Sha256.{H₀, blockCount, hash, bytes, digest};
 ghost use Rattle.harness.specs.Answers.{digestAnswer, leafAnswer, runningAnswer};
 ghost use Rattle.theory.specs.Checks.{written};
 use running::Running;
@@ -54,6 +54,19 @@ pub extern "C" fn lomvuze_test_node(left: &[u8; 32], right: &[u8; 32], out: &mut
     let r = *right;
     let hashed = hash::node(l, r);
     let d = hashed.digest;
+    *out = d;
+}
+
+// The digests of four messages side by side, of which each stands padded in `blocks % 3` blocks.
+#[no_mangle]
+pub extern "C" fn lomvuze_test_side_by_side(
+    messages: &[[u8; 128]; 4],
+    blocks: usize,
+    out: &mut [[u8; 32]; 4],
+)
+    ensures { λ _. ⌜ ((i : ℕ) → i < 4 → getD (now (out .exit)) i [] ≡ bytes (hash H₀ (getD (now (messages .entry)) i []) (blocks % 3)) 8) ⌝ }
+{
+    let d = lanes::digests(messages, blocks % 3);
     *out = d;
 }
 

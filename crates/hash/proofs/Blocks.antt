@@ -79,3 +79,9 @@ all-blocks m h t z g r k e-h e-t e-k e-g e-r =
 pub all-counted : (m : List ℕ) {whole all : ℕ} → whole ≡ 0 + length m / 64 → all ≡ whole + ((length m % 64 + 8) / 64 + 1) → all ≡ blockCount m
 unfolding blockCount
 all-counted m e-w e-a = omega (arith, e-w, e-a, length-pad m)
+
+-- the blocks of a padded message, where more bytes follow it
+pub padded-digest : (m z p : List ℕ) (n : ℕ) → p ≡ pad m ++ z → n ≡ blockCount m → bytes (hash H₀ p n) 8 ≡ digest m
+unfolding digest blockCount
+padded-digest m z p n e-p e-n =
+    ap (λ (x : List ℕ). bytes x 8) (ap₂ (hash H₀) e-p e-n ∙ hash-append H₀ (pad m) z (length (pad m) / 64) (omega arith))

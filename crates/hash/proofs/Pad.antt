@@ -1,8 +1,8 @@
 -- The padded message: its length, and its last blocks, which are written into a buffer of 128 zeros.
 -- Assumes nothing.
-use mathlib.Core.Path.{_≡_, sym, ap, ap₂, _∙_}
+use mathlib.Core.Path.{_≡_, refl, sym, ap, ap₂, _∙_}
 use mathlib.Core.List.{List, _∷_, _++_, append-assoc}
-use Prim.Native.Nat.{ℕ, suc, _+_, _-_, _*_, _/_, _%_, _≤_}
+use Prim.Native.Nat.{ℕ, suc, _+_, _-_, _*_, _/_, _%_, _≤_, _<_}
 use native.Mathlib.Nat.{le-of-eq, zero-add}
 use native.Mathlib.Omega.{arith}
 use lib.ListN.{length, take, drop, set, replicate, length-append, length-drop, length-replicate, replicate-append-replicate, take-append-drop}
@@ -48,24 +48,24 @@ module _ (rest s : List ℕ) (z k : ℕ) where
       (ap (drop (e + 8)) e-t ∙ ap (λ (n : ℕ). drop (n + 8) (front ++ room)) (sym l) ∙ drop-append-add front room 8)
       ∙ ap (λ (x : List ℕ). x ++ replicate k 0) (append-assoc rest (0x80 ∷ replicate z 0) s)
 
--- out is b with the byte 0x80 and the length s, where b holds the last bytes of a message of l bytes, and zeros
-pub closed : (b s out : List ℕ) (l : ℕ) → length b ≡ 128 → drop (l % 64) b ≡ replicate (128 - l % 64) 0 → s ≡ inBytes 8 (8 * l)
+-- out is b with the byte 0x80 and the length s, where b holds the last bytes of a message of l bytes up to `at`, and zeros
+pub closed : (b s out : List ℕ) (at l : ℕ) → length b ≡ 128 → at < 120 → at % 64 ≡ l % 64 → drop at b ≡ replicate (128 - at) 0 → s ≡ inBytes 8 (8 * l)
     → out
-    ≡ take (l % 64 + 1 + (119 - l % 64) % 64) (set b (l % 64) 0x80) ++ s
-    ++ drop (l % 64 + 1 + (119 - l % 64) % 64 + length s) (set b (l % 64) 0x80)
-    → out ≡ take (l % 64) b ++ padding l ++ replicate (128 - l % 64 - length (padding l)) 0
+    ≡ take (at + 1 + (119 - at % 64) % 64) (set b at 0x80) ++ s
+    ++ drop (at + 1 + (119 - at % 64) % 64 + length s) (set b at 0x80)
+    → out ≡ take at b ++ padding l ++ replicate (128 - at - length (padding l)) 0
 unfolding zeros padding
-closed b s out l l-b empty e-s e-out =
-    let rest : List ℕ = take (l % 64) b in
-    let k : ℕ = 128 - l % 64 - length (padding l) in
+closed b s out at l l-b few same empty e-s e-out =
+    let rest : List ℕ = take at b in
+    let k : ℕ = 128 - at - length (padding l) in
     let p = length-padding l in
-    let size : length rest ≡ l % 64 = length-take-le (l % 64) b (omega arith) in
-    let count : 128 - l % 64 ≡ suc (zeros l + (8 + k)) = omega arith in
+    let size : length rest ≡ at = length-take-le at b (omega arith) in
+    let count : 128 - at ≡ suc (zeros l + (8 + k)) = omega arith in
     let eight : length s ≡ 8 = ap length e-s ∙ length-inBytes 8 (8 * l) in
     e-out
-    ∙ ap (λ (n : ℕ). take (l % 64 + 1 + zeros l) (set b (l % 64) 0x80) ++ s ++ drop (l % 64 + 1 + zeros l + n) (set b (l % 64) 0x80)) eight
-    ∙ written rest s (zeros l) k (set b (l % 64) 0x80) (l % 64 + 1 + zeros l)
-    (marked rest s (zeros l) k b (l % 64) (128 - l % 64) (sym (take-append-drop (l % 64) b) ∙ ap (λ (t : List ℕ). rest ++ t) empty) count size)
+    ∙ (λ i. take (at + 1 + (119 - same i) % 64) (set b at 0x80) ++ s ++ drop (at + 1 + (119 - same i) % 64 + eight i) (set b at 0x80))
+    ∙ written rest s (zeros l) k (set b at 0x80) (at + 1 + zeros l)
+    (marked rest s (zeros l) k b at (128 - at) (sym (take-append-drop at b) ∙ ap (λ (t : List ℕ). rest ++ t) empty) count size)
     (omega arith)
     ∙ ap (λ (t : List ℕ). rest ++ (0x80 ∷ (replicate (zeros l) 0 ++ t)) ++ replicate k 0) e-s
 
@@ -77,6 +77,18 @@ zeros-behind x b n l few e-b =
     ∙ ap (λ (i : ℕ). drop i (replicate {A = ℕ} 128 0)) (zero-add (length x) ∙ l)
     ∙ ap (drop n) (sym (replicate-append-replicate n (128 - n) 0 ∙ ap (λ (i : ℕ). replicate {A = ℕ} i 0) all))
     ∙ drop-at (replicate n 0) (replicate (128 - n) 0) n (length-replicate n 0)
+
+-- a short message m, written at the front of 128 zeros, and its padding behind it
+pub padded-is : (m b out : List ℕ) → b ≡ m ++ drop (0 + length m) (replicate 128 0)
+    → out ≡ take (length m) b ++ padding (length m) ++ replicate (128 - length m - length (padding (length m))) 0
+    → out ≡ pad m ++ replicate (128 - length (pad m)) 0
+unfolding pad
+padded-is m b out e-b e-out =
+    let a = length-append m (padding (length m)) in
+    let left : 128 - length m - length (padding (length m)) ≡ 128 - length (m ++ padding (length m)) = omega arith in
+    e-out
+    ∙ ap₂ (λ (x : List ℕ) (n : ℕ). x ++ padding (length m) ++ replicate n 0)
+    (ap (take (length m)) e-b ∙ take-at m (drop (0 + length m) (replicate 128 0)) (length m) refl) left
 
 -- the bytes of m past its whole blocks, as the code's slice has them
 abbrev pub rest-of : List ℕ → List ℕ

@@ -96,10 +96,10 @@ roundWith k w s =
     let T₂ = Σ₀ a ⊞ Maj a b c in
     (T₁ ⊞ T₂) ∷ a ∷ b ∷ c ∷ (d ⊞ T₁) ∷ e ∷ f ∷ g ∷ []
 
--- the working variables after t rounds
-unfoldable pub rounds : List ℕ → List ℕ → ℕ → List ℕ
-rounds w s zero = s
-rounds w s (suc t) = roundWith (getD K t 0) (getD w t 0) (rounds w s t)
+-- the working variables after t rounds, with the constants k and the words w
+unfoldable pub rounds : List ℕ → List ℕ → List ℕ → ℕ → List ℕ
+rounds k w s zero = s
+rounds k w s (suc t) = roundWith (getD k t 0) (getD w t 0) (rounds k w s t)
 
 -- the sum of two hash values, word by word
 unfoldable pub sum : List ℕ → List ℕ → List ℕ
@@ -107,7 +107,7 @@ sum x y = upTo 8 (λ i. getD x i 0 ⊞ getD y i 0)
 
 -- the hash value after the block m, where it was h before it
 unfoldable pub compress : List ℕ → List ℕ → List ℕ
-compress h m = sum (rounds (schedule m) h 64) h
+compress h m = sum (rounds K (schedule m) h 64) h
 
 -- ---- 6.2.2: the blocks in their order, and the digest
 

@@ -1,13 +1,14 @@
 // The compression of one block: FIPS 180-4, section 6.2.2.
 ghost use mathlib.Core.Path.{_≡_};
-ghost use Prim.Native.Nat.{_+_, _*_, _^_, _≤_, _<_};
-ghost use lib.ListN.{length};
+ghost use Prim.Native.Nat.{_+_, _-_, _*_, _^_, _≤_, _<_};
+ghost use lib.ListN.{length, take, getD};
 ghost use Rattle.hash.specs.Word.{_⊞_, σ₀, σ₁};
-ghost use Rattle.hash.specs.Sha256.{schedule, roundWith, rounds, sum, compress, hash};
+ghost use Rattle.hash.specs.Sha256.{upTo, scheduled, schedule, roundWith, rounds, compress, hash};
 use crate::message;
 use crate::word;
 
-const K: [u32; 64] = [
+// The constants of the rounds: FIPS 180-4, section 4.2.2.
+pub const K: [u32; 64] = [
     0x428a2f98,
     0x71374491,
     0xb5c0fbcf,
@@ -87,6 +88,18 @@ fn next_word(w16: u32, w15: u32, w7: u32, w2: u32) -> u32
     )
 }
 
+// Continues a message schedule: each word from 16 on, by those before it.
+pub fn extend(w: &mut [u32])
+    requires { ⌜ 16 ≤ length (now w) ⌝ }
+    ensures { λ _. ⌜ now (w .exit) ≡ scheduled (take 16 (now (w .entry))) (length (now (w .entry)) - 16) ⌝ }
+{
+    let mut t = 16;
+    while t < w.len() {
+        w[t] = next_word(w[t - 16], w[t - 15], w[t - 7], w[t - 2]);
+        t += 1;
+    }
+}
+
 // The message schedule of a block.
 fn schedule(m: [u32; 16]) -> [u32; 64]
     ensures { λ r. ⌜ r ≡ schedule m ⌝ }
@@ -97,10 +110,7 @@ fn schedule(m: [u32; 16]) -> [u32; 64]
         w[t] = m[t];
         t += 1;
     }
-    while t < 64 {
-        w[t] = next_word(w[t - 16], w[t - 15], w[t - 7], w[t - 2]);
-        t += 1;
-    }
+    extend(&mut w);
     w
 }
 
@@ -127,14 +137,14 @@ fn round(s: [u32; 8], k: u32, w: u32) -> [u32; 8]
     [word::add(t1, t2), a, b, c, word::add(d, t1), e, f, g]
 }
 
-// The working variables after the sixty-four rounds.
-fn rounds(w: [u32; 64], h: [u32; 8]) -> [u32; 8]
-    ensures { λ r. ⌜ r ≡ rounds w h 64 ⌝ }
+// The working variables after a round for each of the words, with the constants k.
+pub fn rounds(before: [u32; 8], k: &[u32], w: &[u32]) -> [u32; 8]
+    requires { ⌜ length (now k) ≡ length (now w) ⌝ }
+    ensures { λ r. ⌜ r ≡ rounds (now (k .entry)) (now (w .entry)) before (length (now (w .entry))) ⌝ }
 {
-    let k = K;
-    let mut s = h;
+    let mut s = before;
     let mut t = 0;
-    while t < 64 {
+    while t < w.len() {
         let next = round(s, k[t], w[t]);
         s = next;
         t += 1;
@@ -142,24 +152,34 @@ fn rounds(w: [u32; 64], h: [u32; 8]) -> [u32; 8]
     s
 }
 
-// The sum of two hash values, word by word.
-fn sum(x: [u32; 8], y: [u32; 8]) -> [u32; 8]
-    ensures { λ r. ⌜ r ≡ sum x y ⌝ }
+// Writes the sums of the words of x and y, place by place.
+pub fn sum(x: &[u32], y: &[u32], z: &mut [u32])
+    requires { ⌜ (length (now x) ≡ length (now z)) × (length (now y) ≡ length (now z)) ⌝ }
+    ensures { λ _. ⌜ now (z .exit) ≡ upTo (length (now (z .entry))) (λ i. getD (now (x .entry)) i 0 ⊞ getD (now (y .entry)) i 0) ⌝ }
 {
-    let mut z = [0u32; 8];
     let mut i = 0;
-    while i < 8 {
+    while i < z.len() {
         z[i] = word::add(x[i], y[i]);
         i += 1;
     }
-    z
 }
 
-// The hash value h after the block m.
+// The hash value h after the block m. The compiler writes eight rounds out, one after the other.
 pub fn compress(h: [u32; 8], m: [u32; 16]) -> [u32; 8]
     ensures { λ r. ⌜ r ≡ compress h m ⌝ }
 {
-    sum(rounds(schedule(m), h), h)
+    let k = K;
+    let w = schedule(m);
+    let mut s = h;
+    let mut t = 0;
+    while t < 64 {
+        let next = rounds(s, &k[t..t + 8], &w[t..t + 8]);
+        s = next;
+        t += 8;
+    }
+    let mut r = [0u32; 8];
+    sum(&s, &h, &mut r);
+    r
 }
 
 // A hash value, and how many blocks were processed for it.

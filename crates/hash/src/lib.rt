@@ -1,9 +1,9 @@
 // SHA-256 (FIPS 180-4), for a message of any length, and for the leaf and the inner node of a hash tree (RFC 6962, section 2.1).
 ghost use mathlib.Core.Path.{_≡_};
 ghost use mathlib.Core.List.{_∷_, _++_};
-ghost use Prim.Native.Nat.{_^_, _≤_, _<_};
-ghost use lib.ListN.{length};
-ghost use Rattle.hash.specs.Sha256.{blockCount, digest};
+ghost use Prim.Native.Nat.{_+_, _^_, _≤_, _<_};
+ghost use lib.ListN.{length, take};
+ghost use Rattle.hash.specs.Sha256.{H₀, blockCount, hash, bytes, digest};
 
 pub mod compress;
 pub mod message;
@@ -41,7 +41,7 @@ pub fn digest(msg: &[u8]) -> Hashed
     let rest = 64 * (len / 64);
     let mut last = [0u8; 128];
     message::copy(&mut last, 0, &msg[rest..]);
-    message::close(&mut last, len);
+    message::close(&mut last, len % 64, len);
     let all = compress::blocks(whole, &last, (len % 64 + 8) / 64 + 1);
     let value = all.value;
     let digest = message::bytes(value);
@@ -51,25 +51,57 @@ pub fn digest(msg: &[u8]) -> Hashed
     }
 }
 
-// Hashes a leaf: the byte 0x00, the four bytes of a position, and those of a value, at most sixteen.
-pub fn leaf(position: [u8; 4], value: &[u8]) -> Hashed
+// The message of a leaf, at the front: the byte 0x00, the four bytes of a position, and those of a value, at most sixteen.
+fn leaf_message(position: [u8; 4], value: &[u8]) -> [u8; 21]
     requires { ⌜ length (now value) ≤ 16 ⌝ }
-    ensures { λ r. ⌜ (r .digest ≡ digest (0x00 ∷ (position ++ now (value .entry)))) × (r .blocks ≡ blockCount (0x00 ∷ (position ++ now (value .entry)))) ⌝ }
+    ensures { λ r. ⌜ take (5 + length (now (value .entry))) r ≡ 0x00 ∷ (position ++ now (value .entry)) ⌝ }
 {
     let mut msg = [0u8; 21];
     msg[0] = 0x00;
     message::copy(&mut msg, 1, &position);
     message::copy(&mut msg, 5, value);
+    msg
+}
+
+// Hashes a leaf.
+pub fn leaf(position: [u8; 4], value: &[u8]) -> Hashed
+    requires { ⌜ length (now value) ≤ 16 ⌝ }
+    ensures { λ r. ⌜ (r .digest ≡ digest (0x00 ∷ (position ++ now (value .entry)))) × (r .blocks ≡ blockCount (0x00 ∷ (position ++ now (value .entry)))) ⌝ }
+{
+    let msg = leaf_message(position, value);
     digest(&msg[..5 + value.len()])
 }
 
-// Hashes an inner node: the byte 0x01 and the digests of its two children.
-pub fn node(left: [u8; 32], right: [u8; 32]) -> Hashed
-    ensures { λ r. ⌜ (r .digest ≡ digest (0x01 ∷ (left ++ right))) × (r .blocks ≡ blockCount (0x01 ∷ (left ++ right))) ⌝ }
+// The padded message of a leaf: one block, and zeros behind it.
+pub fn padded_leaf(position: [u8; 4], value: &[u8]) -> [u8; 128]
+    requires { ⌜ length (now value) ≤ 16 ⌝ }
+    ensures { λ r. ⌜ bytes (hash H₀ r 1) 8 ≡ digest (0x00 ∷ (position ++ now (value .entry))) ⌝ }
+{
+    let msg = leaf_message(position, value);
+    message::padded(&msg[..5 + value.len()])
+}
+
+// The message of an inner node: the byte 0x01 and the digests of its two children.
+fn node_message(left: [u8; 32], right: [u8; 32]) -> [u8; 65]
+    ensures { λ r. ⌜ r ≡ 0x01 ∷ (left ++ right) ⌝ }
 {
     let mut msg = [0u8; 65];
     msg[0] = 0x01;
     message::copy(&mut msg, 1, &left);
     message::copy(&mut msg, 33, &right);
-    digest(&msg)
+    msg
+}
+
+// Hashes an inner node.
+pub fn node(left: [u8; 32], right: [u8; 32]) -> Hashed
+    ensures { λ r. ⌜ (r .digest ≡ digest (0x01 ∷ (left ++ right))) × (r .blocks ≡ blockCount (0x01 ∷ (left ++ right))) ⌝ }
+{
+    digest(&node_message(left, right))
+}
+
+// The padded message of an inner node, which is two blocks.
+pub fn padded_node(left: [u8; 32], right: [u8; 32]) -> [u8; 128]
+    ensures { λ r. ⌜ bytes (hash H₀ r 2) 8 ≡ digest (0x01 ∷ (left ++ right)) ⌝ }
+{
+    message::padded(&node_message(left, right))
 }

@@ -3,7 +3,7 @@ ghost use mathlib.Core.Path.{_≡_};
 ghost use mathlib.Core.List.{_++_};
 ghost use Prim.Native.Nat.{_+_, _-_, _*_, _%_, _^_, _<_, _≤_};
 ghost use lib.ListN.{length, take, drop, replicate};
-ghost use Rattle.hash.specs.Sha256.{byte, inBytes, padding, words, bytes};
+ghost use Rattle.hash.specs.Sha256.{byte, inBytes, padding, pad, words, bytes};
 
 // Byte n of x, counted from the lowest.
 fn byte(n: u64, x: u64) -> u8
@@ -70,15 +70,25 @@ fn in_eight_bytes(x: u64) -> [u8; 8]
     ]
 }
 
-// Writes the padding of a message of len bytes after the message's last len % 64 bytes, which stand in b before zeros.
-pub fn close(b: &mut [u8], len: usize)
-    requires { ⌜ (len < 2 ^ 61) × (length (now b) ≡ 128) × (drop (len % 64) (now b) ≡ replicate (128 - len % 64) 0) ⌝ }
-    ensures { λ r. ⌜ now (b .exit) ≡ take (len % 64) (now (b .entry)) ++ padding len ++ replicate (128 - len % 64 - length (padding len)) 0 ⌝ }
+// Writes the padding of a message of len bytes into b from index `at` on, where the bytes of its last blocks end and zeros follow.
+pub fn close(b: &mut [u8], at: usize, len: usize)
+    requires { ⌜ (len < 2 ^ 61) × (length (now b) ≡ 128) × (at < 120) × (at % 64 ≡ len % 64) × (drop at (now b) ≡ replicate (128 - at) 0) ⌝ }
+    ensures { λ r. ⌜ now (b .exit) ≡ take at (now (b .entry)) ++ padding len ++ replicate (128 - at - length (padding len)) 0 ⌝ }
 {
-    let at = len % 64;
     b[at] = 0x80;
     let bits = in_eight_bytes((8 * len) as u64);
-    copy(b, at + 1 + (119 - at) % 64, &bits);
+    copy(b, at + 1 + (119 - at % 64) % 64, &bits);
+}
+
+// A message of at most 119 bytes, padded. Zeros follow the one or two blocks.
+pub fn padded(msg: &[u8]) -> [u8; 128]
+    requires { ⌜ length (now msg) < 120 ⌝ }
+    ensures { λ r. ⌜ r ≡ pad (now (msg .entry)) ++ replicate (128 - length (pad (now (msg .entry)))) 0 ⌝ }
+{
+    let mut b = [0u8; 128];
+    copy(&mut b, 0, msg);
+    close(&mut b, msg.len(), msg.len());
+    b
 }
 
 // The thirty-two bytes of a hash value.

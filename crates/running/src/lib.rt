@@ -98,7 +98,7 @@ impl Running {
         let rest = self.rest;
         let mut last = [0u8; 128];
         message::copy(&mut last, 0, &rest[..at]);
-        message::close(&mut last, len);
+        message::close(&mut last, at, len);
         let all = compress::blocks(State { value, blocks: 0 }, &last, (at + 8) / 64 + 1);
         let closed = all.value;
         message::bytes(closed)

@@ -6,7 +6,8 @@ pub mod Shown
 pub mod Decided
 pub mod Entries
 pub mod Positions
-pub mod Levels
+pub mod Places
+pub mod Stores
 pub mod Heaps
 pub mod Written
 pub mod ReadBack

@@ -4,7 +4,11 @@ use mathlib.Core.Path.{_≡_}
 use mathlib.Core.List.{List, [], _∷_}
 use Prim.Native.Nat.{ℕ, zero, suc, _+_, _/_, _^_, _<_}
 use lib.ListN.{getD}
-use Rattle.tree.specs.Merkle.{subtree, sibling}
+use Rattle.tree.specs.Merkle.{leafString, subtree, sibling}
+
+-- the digests of the first i leaves stand from index `count` on
+abbrev pub Leaves : (List ℕ → List ℕ) → List (List ℕ) → ℕ → ℕ → List (List ℕ) → Type 0
+Leaves digest es count i nodes = (q : ℕ) → q < i → getD nodes (count + q) [] ≡ digest (leafString (getD es q []))
 
 -- the list holds the digests of the tree over 2 ^ d entries: level j is h levels below the root.
 -- What stands at 0 and after the leaves is left free: no path goes by it.

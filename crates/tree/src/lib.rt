@@ -7,10 +7,13 @@ ghost use lib.ListN.{length, take, drop};
 ghost use lib.Seq.{sets};
 ghost use Rattle.hash.specs.Sha256.{blockCount, digest};
 ghost use Rattle.numbers.specs.Numbers.{numbers, bytes4, allBelow};
-ghost use Rattle.tree.specs.Merkle.{leafString, nodeString, joined, blocksOf, root as rootOf, subtree as subtreeOf, sibling as siblingOf};
-ghost use Rattle.tree.specs.Entry.{entry, entries};
+ghost use Rattle.tree.specs.Merkle.{leafString, nodeString, joined, blocksOf, root as rootOf, sibling as siblingOf};
+ghost use Rattle.tree.specs.Entry.{entry, entriesFrom, entries};
 ghost use Rattle.tree.specs.Heap.{IsHeap, heapPath};
 ghost use Rattle.tree.specs.Layout.{part, openingSize, openedValue, openedRoot, openedStrings, flat, ownOpening, ownOpenings};
+
+mod levels;
+
 use hash::Hashed;
 
 // Hashes the leaf for a value's bytes at a position.
@@ -37,16 +40,29 @@ fn node(left: [u8; 32], right: [u8; 32]) -> [u8; 32]
     hashed.digest
 }
 
-// The digest at a level and a place of the tree over the values.
-fn subtree(values: &[u32], level: usize, place: usize) -> [u8; 32]
-    requires { ⌜ (place + 1) * 2 ^ level ≤ length (now values) ⌝ }
-    ensures { λ r. ⌜ r ≡ subtreeOf digest (entries (now (values .entry))) level place ⌝ }
+// The root of the tree over 2 ^ depth values, at most 64, of which the first has the position `first`: all digests are worked out.
+fn small_root(values: &[u32], depth: usize, first: usize) -> [u8; 32]
+    requires { ⌜ (length (now values) ≡ 2 ^ depth) × (length (now values) ≤ 64) × (first + length (now values) < 2 ^ 64) ⌝ }
+    ensures { λ r. ⌜ r ≡ rootOf digest depth (entriesFrom first (now (values .entry))) ⌝ }
 {
-    if level == 0 {
-        return number_leaf(place, values[place]);
+    let none = [0u8; 32];
+    let mut nodes = [none; 128];
+    levels::fill(&mut nodes, values, depth, first);
+    nodes[1]
+}
+
+// The same for any count of values: those of more than 64 are halved.
+fn subtree(values: &[u32], depth: usize, first: usize) -> [u8; 32]
+    requires { ⌜ (length (now values) ≡ 2 ^ depth) × (first + length (now values) < 2 ^ 64) ⌝ }
+    ensures { λ r. ⌜ r ≡ rootOf digest depth (entriesFrom first (now (values .entry))) ⌝ }
+{
+    let count = values.len();
+    if count <= 64 {
+        return small_root(values, depth, first);
     }
-    let l = subtree(values, level - 1, 2 * place);
-    let r = subtree(values, level - 1, 2 * place + 1);
+    let half = count / 2;
+    let l = subtree(&values[..half], depth - 1, first);
+    let r = subtree(&values[half..], depth - 1, first + half);
     node(l, r)
 }
 
@@ -56,29 +72,6 @@ pub fn root(values: &[u32], depth: usize) -> [u8; 32]
     ensures { λ r. ⌜ r ≡ rootOf digest depth (entries (now (values .entry))) ⌝ }
 {
     subtree(values, depth, 0)
-}
-
-// All digests of the tree over 2 ^ depth values: the root at 1, and the children of n at 2n and 2n + 1.
-fn nodes_of(values: &[u32], depth: usize) -> [[u8; 32]; 512]
-    requires { ⌜ (length (now values) ≡ 2 ^ depth) × (depth ≤ 8) ⌝ }
-    ensures { λ r. ⌜ IsHeap digest depth (entries (now (values .entry))) r ⌝ }
-{
-    let none = [0u8; 32];
-    let mut nodes = [none; 512];
-    let count = values.len();
-    let mut i = 0;
-    while i < count {
-        let d = number_leaf(i, values[i]);
-        nodes[count + i] = d;
-        i += 1;
-    }
-    let mut n = count - 1;
-    while 0 < n {
-        let d = node(nodes[2 * n], nodes[2 * n + 1]);
-        nodes[n] = d;
-        n -= 1;
-    }
-    nodes
 }
 
 // The value of the opening at a place of the buffer.
@@ -205,7 +198,9 @@ pub fn write_openings(values: &[u32], depth: usize, positions: &[u8], out: &mut 
     requires { ⌜ (length (now values) ≡ 2 ^ depth) × (depth ≤ 8) × (allBelow (2 ^ depth) (numbers (now positions)) ≡ true) × (length (now out) ≡ length (numbers (now positions)) * openingSize depth) ⌝ }
     ensures { λ _. ⌜ now (out .exit) ≡ ownOpenings digest depth (now (values .entry)) (numbers (now (positions .entry))) ⌝ }
 {
-    let nodes = nodes_of(values, depth);
+    let none = [0u8; 32];
+    let mut nodes = [none; 512];
+    levels::fill(&mut nodes, values, depth, 0);
     let count = positions.len() / 4;
     let size = 4 + 32 * depth;
     let mut q = 0;

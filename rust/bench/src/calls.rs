@@ -1,5 +1,5 @@
-//! The eleven calls with k = 64 as a Rust programmer would write them, with the algorithms of the proved ones.
-//! The lengths of quotient and fold's output buffers are taken to fit.
+//! The eleven calls with k = 64 as a Rust programmer would write them, with the algorithms of the proved ones,
+//! but that each message is hashed by itself. The lengths of quotient and fold's output buffers are taken to fit.
 
 #![allow(clippy::too_many_arguments)]
 

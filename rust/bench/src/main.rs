@@ -3,10 +3,11 @@
 //!
 //! Each line is measured in one run on one machine, in rounds that alternate between the two; the best round
 //! counts. A ratio above 1 says that the proved code takes longer. What is measured is the thread's processor
-//! time, so that other work on the machine disturbs it less.
+//! time, so that other work on the machine disturbs it less. Plain Rust hashes one message at a time, also where the
+//! proved library builds a tree. The last two tables have OpenSSL's SHA-256 in place of the proved library.
 
-use bench::measure::best;
-use bench::{calls, plain, plain_sheet, points as plain_points, running};
+use bench::table::{self, compare, head, times};
+use bench::{calls, machine, openssl_rows, plain, plain_sheet, points as plain_points, running};
 use lomvuze_proved as proved;
 use lomvuze_reference::sheet::{write, MOST_BYTES};
 use lomvuze_samples::sheet::{of_length, Buffers, Shape, GREATEST};
@@ -14,49 +15,28 @@ use lomvuze_samples::{library, points, Call, Honest, Library, Name, Part, Random
 use lomvuze_verdicts as verdicts;
 use std::hint::black_box;
 
-const ROUNDS: usize = 100;
-
 /// The bytes of an opening of 256 values.
 const OPENING: usize = 4 + 32 * 8;
 
-/// Seconds that one call of each takes. Both results agree.
-fn times<T: PartialEq + std::fmt::Debug>(
-    name: &str,
-    calls: u32,
-    mut proved: impl FnMut() -> T,
-    mut plain: impl FnMut() -> T,
-) -> (f64, f64) {
-    assert_eq!(proved(), plain(), "{name}");
-    best(ROUNDS, calls, proved, plain)
-}
-
-/// One line of the table. A call does `steps` steps.
-fn compare<T: PartialEq + std::fmt::Debug>(
-    name: &str,
-    calls: u32,
-    steps: u32,
-    proved: impl FnMut() -> T,
-    plain: impl FnMut() -> T,
-) {
-    let (proved, plain) = times(name, calls, proved, plain);
-    let nanoseconds = |seconds: f64| 1e9 * seconds / steps as f64;
-    println!("{name:<34} {:>12.1} {:>12.1} {:>8.2}", nanoseconds(proved), nanoseconds(plain), proved / plain);
-}
-
 fn main() {
-    println!("{:<34} {:>12} {:>12} {:>8}", "", "proved, ns", "plain, ns", "ratio");
+    if std::env::args().nth(1).as_deref() == Some(openssl_rows::ARGUMENT) {
+        return openssl_rows::print_lines();
+    }
+    println!("{}\n", machine::description());
+    head("", "proved, ns", "plain, ns");
     compare_hashes();
+    compare_side_by_side();
     compare_field();
     compare_code();
     compare_trees();
     compare_calls();
 
-    println!(
-        "\n{:<34} {:>12} {:>12} {:>8}",
-        "A sheet of 60,000 bytes read", "proved, MB/s", "plain, MB/s", "ratio"
-    );
+    println!();
+    head("A sheet of 60,000 bytes read", "proved, MB/s", "plain, MB/s");
     compare_sheet("3,072 entries, 64 pairs", &GREATEST);
     compare_sheet("24 entries, 40 pairs, long numbers", &Shape { entries: [8; 3], pairs: 40, ..GREATEST });
+
+    openssl_rows::print_tables();
 }
 
 fn compare_hashes() {
@@ -93,6 +73,26 @@ fn compare_hashes() {
         1,
         || written(|out| assert_eq!(proved::running(black_box(&long), 100, out), 0)),
         || running::hash(black_box(&long), 100),
+    );
+}
+
+/// Four messages of an inner node's length: the proved ones, which are padded beforehand, side by side, the plain ones one
+/// at a time. The times are those of one.
+fn compare_side_by_side() {
+    let messages: [[u8; 65]; 4] = std::array::from_fn(|i| std::array::from_fn(|j| (64 * i + j) as u8));
+    let padded = messages.map(|message| {
+        let mut padded = [0; 128];
+        padded[..65].copy_from_slice(&message);
+        padded[65] = 0x80;
+        padded[126..].copy_from_slice(&(8 * 65u16).to_be_bytes());
+        padded
+    });
+    compare(
+        "65 bytes, four side by side",
+        200,
+        4,
+        || proved::side_by_side(black_box(&padded), 2),
+        || black_box(&messages).map(|message| plain::sha256(&message).0),
     );
 }
 
@@ -242,5 +242,5 @@ fn compare_sheet(line: &str, shape: &Shape) {
     );
     assert!(by_proved == by_plain, "{line}");
     let rate = |seconds: f64| 1e-6 * text.len() as f64 / seconds;
-    println!("{line:<34} {:>12.1} {:>12.1} {:>8.2}", rate(proved), rate(plain), proved / plain);
+    table::line(line, rate(proved), rate(plain), proved / plain);
 }

@@ -1,4 +1,4 @@
-//! The same algorithms as a Rust programmer would write them, for their speed.
+//! The same algorithms as a Rust programmer would write them, for their speed. Messages are hashed one at a time.
 
 pub const P: u32 = 2013265921;
 
@@ -172,32 +172,37 @@ pub fn codeword_at(w: &[u32], points: &[u32], out: &mut [u32]) {
 
 // ---- The tree over 256 leaves
 
-fn leaf(position: usize, value: u32) -> Hashed {
+fn leaf_message(position: usize, value: u32) -> [u8; 9] {
     let mut message = [0; 9];
     message[1..5].copy_from_slice(&(position as u32).to_le_bytes());
     message[5..].copy_from_slice(&value.to_le_bytes());
-    sha256(&message)
+    message
 }
 
-fn node(left: &[u8; 32], right: &[u8; 32]) -> Hashed {
+fn node_message(left: &[u8; 32], right: &[u8; 32]) -> [u8; 65] {
     let mut message = [1; 65];
     message[1..33].copy_from_slice(left);
     message[33..].copy_from_slice(right);
-    sha256(&message)
+    message
+}
+
+fn node(left: &[u8; 32], right: &[u8; 32]) -> Hashed {
+    sha256(&node_message(left, right))
 }
 
 #[inline(never)]
 pub fn root(values: &[u32]) -> [u8; 32] {
-    root_from(0, values)
+    root_by(&|message| sha256(message).0, 0, values)
 }
 
-/// The digest over values that stand at the positions from `first` on, by recursion, without a buffer.
-fn root_from(first: usize, values: &[u32]) -> [u8; 32] {
+/// The digest over values that stand at the positions from `first` on, by recursion, without a buffer. `digest` hashes a message.
+pub fn root_by(digest: &impl Fn(&[u8]) -> [u8; 32], first: usize, values: &[u32]) -> [u8; 32] {
     match values {
-        [value] => leaf(first, *value).0,
+        [value] => digest(&leaf_message(first, *value)),
         _ => {
             let (left, right) = values.split_at(values.len() / 2);
-            node(&root_from(first, left), &root_from(first + left.len(), right)).0
+            let right = root_by(digest, first + left.len(), right);
+            digest(&node_message(&root_by(digest, first, left), &right))
         }
     }
 }
@@ -206,7 +211,7 @@ fn root_from(first: usize, values: &[u32]) -> [u8; 32] {
 fn nodes(values: &[u32; 256]) -> [[u8; 32]; 512] {
     let mut nodes = [[0; 32]; 512];
     for (i, value) in values.iter().enumerate() {
-        nodes[256 + i] = leaf(i, *value).0;
+        nodes[256 + i] = sha256(&leaf_message(i, *value)).0;
     }
     for n in (1..256).rev() {
         nodes[n] = node(&nodes[2 * n], &nodes[2 * n + 1]).0;
@@ -230,7 +235,8 @@ pub fn openings(values: &[u32; 256], positions: impl Iterator<Item = usize>, out
 
 /// Where an opening leads, and the blocks of all messages hashed on the way.
 pub fn leads_to(opening: &[u8], position: usize) -> Hashed {
-    let (mut own, mut blocks) = leaf(position, u32::from_le_bytes(opening[..4].try_into().unwrap()));
+    let value = u32::from_le_bytes(opening[..4].try_into().unwrap());
+    let (mut own, mut blocks) = sha256(&leaf_message(position, value));
     for (level, sibling) in opening[4..].chunks_exact(32).enumerate() {
         let sibling = sibling.try_into().unwrap();
         let (above, count) =

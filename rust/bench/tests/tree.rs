@@ -1,5 +1,6 @@
-//! The plain tree beside the reference.
+//! The plain tree beside the reference, and that of OpenSSL where it is there.
 
+use bench::openssl::OpenSsl;
 use bench::plain;
 use lomvuze_reference::{code, tree};
 use lomvuze_samples::Random;
@@ -20,4 +21,16 @@ fn trees() {
             assert_eq!((led == root, blocks), (other == position, 17), "{position} at {other}");
         }
     }
+}
+
+#[test]
+fn openssl() {
+    let Some(openssl) = OpenSsl::load() else {
+        return println!("libcrypto.so.3 is not there");
+    };
+    let codeword = Random::new(2).elements(256);
+    let values: Vec<u32> = codeword.iter().map(|element| element.number()).collect();
+    let root = tree::root(&code::entries(&codeword));
+    assert_eq!(plain::root_by(&|message| openssl.one_shot(message), 0, &values), root);
+    assert_eq!(plain::root_by(&|message| openssl.three_calls(message), 0, &values), root);
 }

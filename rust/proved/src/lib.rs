@@ -19,6 +19,8 @@ mod exported {
         pub fn lomvuze_test_leaf(position: *const u8, value: *const u8, length: usize, out: *mut u8) -> u32;
         pub fn lomvuze_test_node(left: *const u8, right: *const u8, out: *mut u8);
 
+        pub fn lomvuze_test_side_by_side(messages: *const [u8; 128], blocks: usize, out: *mut [u8; 32]);
+
         pub fn lomvuze_test_running(message: *const u8, length: usize, step: usize, out: *mut u8) -> u32;
         pub fn lomvuze_test_running_node(left: *const u8, right: *const u8, out: *mut u8);
 
@@ -118,6 +120,14 @@ pub fn leaf(position: &[u8; 4], value: &[u8], out: &mut Digest) -> u32 {
 pub fn node(left: &Digest, right: &Digest) -> Digest {
     let mut out = [0; 32];
     unsafe { lomvuze_test_node(left.as_ptr(), right.as_ptr(), out.as_mut_ptr()) };
+    out
+}
+
+/// The digests of four messages side by side, of which each stands padded in one block or in two.
+pub fn side_by_side(messages: &[[u8; 128]; 4], blocks: usize) -> [Digest; 4] {
+    assert!(blocks == 1 || blocks == 2);
+    let mut out = [[0; 32]; 4];
+    unsafe { lomvuze_test_side_by_side(messages.as_ptr(), blocks, out.as_mut_ptr()) };
     out
 }
 

@@ -36,7 +36,7 @@ close-requires : tie.Need-close-requires
 close-requires c κs =
     let after-copy = c .before .before in
     let at-start = after-copy .before .before .before .before .before in
-    (search needs, search needs, zeros-past (at-start .args .msg .now) (after-copy .copy .last .0) (after-copy .copy .ensures))
+    (search needs, search needs, search needs, search needs, zeros-past (at-start .args .msg .now) (after-copy .copy .last .0) (after-copy .copy .ensures))
 
 slice-aggregate-blocks : tie.Need-slice-aggregate-blocks
 slice-aggregate-blocks c = search needs

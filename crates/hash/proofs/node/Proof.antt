@@ -1,32 +1,13 @@
--- `node` meets its contract: the message is the byte 0x01 and the two digests.
+-- `node` meets its contract: its message is hashed.
 -- Assumes nothing.
 use mathlib.Core.Path.{ap, _∙_}
 use Rattle.hash.specs.Sha256.{blockCount, digest}
-use Rattle.hash.proofs.Tree.{node-message}
 use borrow.Author.Needs.{needs}
 use Rattle.hash.proofs.node.Statement.{statement}
 use Rattle.hash.proofs.node.Tie as tie
 
-array-write-msg : tie.Need-array-write-msg
-array-write-msg c = search needs
-
-slice-aggregate-copy : tie.Need-slice-aggregate-copy
-slice-aggregate-copy c = search needs
-
-slice-aggregate-copy-2 : tie.Need-slice-aggregate-copy-2
-slice-aggregate-copy-2 c = search needs
-
-copy-requires : tie.Need-copy-requires
-copy-requires c κs = search needs
-
-slice-aggregate-copy-3 : tie.Need-slice-aggregate-copy-3
-slice-aggregate-copy-3 c = search needs
-
-slice-aggregate-copy-4 : tie.Need-slice-aggregate-copy-4
-slice-aggregate-copy-4 c = search needs
-
-copy-requires-2 : tie.Need-copy-requires-2
-copy-requires-2 c κs = search needs
+node-message-requires : tie.Need-node-message-requires
+node-message-requires c κs = search needs
 
 slice-aggregate-digest : tie.Need-slice-aggregate-digest
 slice-aggregate-digest c = search needs
@@ -36,23 +17,9 @@ digest-requires c κs = search needs
 
 returns : tie.Need-returns
 returns c =
-    let after-right = c .before .before .before in
-    let after-left = after-right .before .before .before .before in
-    let at-start = after-left .before .before .before in
-    let message = node-message (at-start .args .t1) (at-start .args .t2) (after-left .copy .last .0) (after-right .copy2 .last .0) (search needs) (search needs) (after-left .copy .ensures) (after-right .copy2 .ensures) in
+    let message = c .before .before .node-message .ensures in
     (c .digest .ensures .0 ∙ ap digest message, c .digest .ensures .1 ∙ ap blockCount message)
 
 pub node-spec : {M : Type 1} → statement M
 node-spec =
-    tie.close
-    (tie.spec
-    array-write-msg
-    slice-aggregate-copy
-    slice-aggregate-copy-2
-    copy-requires
-    slice-aggregate-copy-3
-    slice-aggregate-copy-4
-    copy-requires-2
-    slice-aggregate-digest
-    digest-requires
-    returns)
+    tie.close (tie.spec node-message-requires slice-aggregate-digest digest-requires returns)

@@ -9,7 +9,7 @@ use denote.Ref.{now}
 use Rattle.tree.specs.Merkle.{sibling}
 use Rattle.tree.specs.Heap.{heapPath}
 use Rattle.tree.specs.Layout.{flat}
-use Rattle.tree.proofs.Levels.{half-below, half-of, sibling-below, few}
+use Rattle.tree.proofs.Places.{half-below, half-of, sibling-below, few}
 use Rattle.tree.proofs.Written.{write-step, write-end}
 use Rattle.tree.proofs.write_path.Statement.{statement}
 use Rattle.tree.proofs.write_path.Tie as tie

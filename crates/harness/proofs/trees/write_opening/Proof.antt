@@ -5,7 +5,7 @@ use borrow.Author.Needs.{needs}
 use denote.Ref.{now}
 use Rattle.hash.specs.Sha256.{digest}
 use Rattle.tree.specs.Layout.{ownOpenings}
-use Rattle.tree.proofs.Levels.{few}
+use Rattle.tree.proofs.Places.{few}
 use Rattle.harness.proofs.Openings.{one-position, asked, one-opening}
 use Rattle.harness.proofs.trees.write_opening.Statement.{statement}
 use Rattle.harness.proofs.trees.write_opening.Tie as tie

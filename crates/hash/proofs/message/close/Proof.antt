@@ -1,9 +1,9 @@
 -- `message::close` meets its contract: the byte 0x80 and the length go where the padding has them.
 -- Assumes nothing.
 use mathlib.Core.Path.{_≡_, _∙_}
-use native.Mathlib.Omega.{arith}
 use lib.ListN.{length, length-set}
 use Rattle.hash.proofs.Pad.{closed}
+use native.Mathlib.Omega.{arith}
 use borrow.Author.Needs.{needs}
 use Rattle.hash.proofs.message.close.Statement.{statement}
 use Rattle.hash.proofs.message.close.Tie as tie
@@ -41,9 +41,9 @@ returns : tie.Need-returns
 returns c =
     let after-copy = c .before .before in
     let at-bits = after-copy .before .before .before in
-    let at-start = at-bits .before .before in
-    closed (at-start .args .b .now) (at-bits .in-eight-bytes .result) (after-copy .copy .last .0) (at-start .args .len)
-    (at-start .pre .1) (at-start .pre .2) (at-bits .in-eight-bytes .ensures) (after-copy .copy .ensures)
+    let start = at-bits .before .before in
+    closed (start .args .b .now) (at-bits .in-eight-bytes .result) (after-copy .copy .last .0) (start .args .at) (start .args .len)
+    (start .pre .1) (start .pre .2) (start .pre .3) (start .pre .4) (at-bits .in-eight-bytes .ensures) (after-copy .copy .ensures)
 
 pub close-spec : {M : Type 1} → statement M
 close-spec =

@@ -37,7 +37,7 @@ close-requires : tie.Need-close-requires
 close-requires c κs =
     let a = c .before .before .before .before .before .before .before .args in
     let size : length (a .self .rest) ≡ 64 = search needs in
-    (search needs, search needs, zeros-behind (take (a .self .len % 64) (a .self .rest)) (c .before .before .copy .last .0) (a .self .len % 64) (length-take-le _ (a .self .rest) (omega arith)) (omega arith) (c .before .before .copy .ensures))
+    (search needs, search needs, omega arith, omega arith, zeros-behind (take (a .self .len % 64) (a .self .rest)) (c .before .before .copy .last .0) (a .self .len % 64) (length-take-le _ (a .self .rest) (omega arith)) (omega arith) (c .before .before .copy .ensures))
 
 slice-aggregate-blocks : tie.Need-slice-aggregate-blocks
 slice-aggregate-blocks c = search needs
