@@ -1,4 +1,4 @@
-# The common commands. They need rt (the Rattle toolchain) and a C compiler; `test`, `bench` and `codewords` also need Rust, `fuzz` needs clang.
+# The common commands. They need rt (the Rattle toolchain), flock and a C compiler; `test`, `bench` and `codewords` also need Rust, `fuzz` needs Rust and clang.
 
 # The version stands in the header.
 header := include/lomvuze.h
@@ -101,7 +101,7 @@ uninstall:
 test:
 	bash .ci/run
 
-# The proved library's speed, and that of OpenSSL's SHA-256, beside plain Rust.
+# The proved library's speed, and that of OpenSSL's SHA-256, beside plain Rust: tables in Markdown, in a minute.
 bench: $(staticlib)/libharness.a $(staticlib)/libverdicts.a
 	cargo run --release --offline --manifest-path rust/Cargo.toml -p bench
 

@@ -3,13 +3,13 @@
 #
 #   fuzz/run.sh [SECONDS [CALL...]]
 #
-# By default each call that the header declares gets 60 seconds. Needs clang with libFuzzer and AddressSanitizer; where cargo is there, honest
-# calls of any size are added to the seeds. LOMVUZE_STATICLIB names another folder with libverdicts.a in it; nothing is built there.
+# By default each call that the header declares gets 60 seconds. Needs clang with libFuzzer and AddressSanitizer, and cargo, by which honest calls of
+# any size are added to the seeds. LOMVUZE_STATICLIB names another folder with libverdicts.a in it; nothing is built there.
 # Exit status: 0 where nothing is found.
 set -euo pipefail
 cd "$(dirname "$0")/.."
 if [ -z "${LOMVUZE_STATICLIB:-}" ]; then
-    rt staticlib verdicts
+    bash make/alone.sh rt staticlib verdicts
 fi
 library="${LOMVUZE_STATICLIB:-target/staticlib}/libverdicts.a"
 folder=target/fuzz
@@ -18,9 +18,7 @@ seconds=${1:-60}
 calls=("${@:2}")
 [ "${#calls[@]}" -gt 0 ] || mapfile -t calls < <(sed -n 's/^uint[0-9]*_t lomvuze_\([a-z_]*\)(.*/\1/p' include/lomvuze.h)
 
-if command -v cargo >/dev/null; then
-    cargo run --quiet --release --offline --manifest-path rust/Cargo.toml -p lomvuze-samples --example corpus -- "$folder/seeds" 100
-fi
+cargo run --quiet --release --offline --manifest-path rust/Cargo.toml -p lomvuze-samples --example corpus -- "$folder/seeds" 100
 
 # Coverage of the targets themselves would say nothing about the library, so they have none; target.c tells libFuzzer what to keep.
 checked=(-fsanitize=address,undefined -fno-sanitize-recover=undefined)
@@ -33,8 +31,7 @@ for call in "${calls[@]}"; do
     objects=("$folder"/{"$call",target,input,points,leading,drawn,memory,mutator}.o)
     clang "${checked[@]}" -fsanitize=fuzzer -o "$folder/$call" "${objects[@]}" "$library"
     log="$folder/$call.log"
-    seeds=("fuzz/corpus/$call")
-    [ ! -d "$folder/seeds/$call" ] || seeds+=("$folder/seeds/$call")
+    seeds=("fuzz/corpus/$call" "$folder/seeds/$call")
     words=()
     [ ! -f "fuzz/$call.dict" ] || words=(-dict="fuzz/$call.dict")
     # Inputs that libFuzzer keeps go to the first folder. The longest seed, of the greatest sizes for verifying, has 603,000 bytes.

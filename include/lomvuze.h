@@ -67,8 +67,8 @@
  * quotient, fold and decide then refuse by LOMVUZE_ROOT, and verify refuses by LOMVUZE_OPENING.
  *
  * Verify takes no points: it compares opened values position by position. What many challenges show
- * (see below) holds where every decision was lent one and the same list that passes LOMVUZE_POINTS,
- * because values at k different positions fix one witness only where their points are different.
+ * (see below) also asks that every decision was lent one and the same list, and passed
+ * LOMVUZE_POINTS: values at k different positions fix one witness only where their points differ.
  *
  * Before version 0.3.0 no call took points. Six calls have a new first buffer, so programs are
  * compiled anew; with LOMVUZE_BUILT_IN_POINTS the calls answer and write what they did.
@@ -83,7 +83,8 @@
  *
  * Before version 0.2.0 a leaf was the byte 0x00 and the value alone. Roots of that time are not
  * converted, and count as any other digest: of a batch of that time the quotient, the fold and
- * the decision are refused by LOMVUZE_ROOT, and the verification by LOMVUZE_OPENING.
+ * the decision are refused by LOMVUZE_ROOT, and the verification by LOMVUZE_OPENING; but where a
+ * first input is not 1, all four are refused by LOMVUZE_FIRST_INPUT, which comes before.
  *
  * CLAIMS
  *
@@ -135,8 +136,11 @@
  *                           LOMVUZE_ITEM_ROOT(m, n)
  *   lomvuze_open            each witness and the new one, at these positions
  *
- * and then lomvuze_interleave, lomvuze_verify and lomvuze_decide. It is proved that from the
- * quotient on every verdict is 0 where the items pass the checks, hold and match (docs/AUDIT.md).
+ * and then lomvuze_interleave, lomvuze_verify and lomvuze_decide. It is proved that the verdicts of
+ * quotient, draw_challenge, fold, draw_positions, open, verify and decide are all 0 where the items
+ * pass the checks, hold and match, t is 1 to 4k and each output buffer has its length
+ * (docs/AUDIT.md). The openings go to verify in the order that interleave promises to write;
+ * interleave tests sizes and lengths alone.
  *
  * What drawing settles: who picks challenge, positions and r, and after what. Nobody picks them:
  * they follow from the bytes that they test. It settles this for whoever draws them from the very
@@ -146,11 +150,12 @@
  * What it does not settle:
  *
  *   - How many were tried. Whoever makes items, quotient or new root can change them and draw
- *     again, as often as wanted, and nobody sees it. For each list with a false item and each
- *     quotient up to (l - 1) * (m + 2) of the p - l challenges pass, so that one of these is drawn
- *     after some p / ((l - 1) * (m + 2)) tries: 36 million for l = 8 and m = 6, a thousand million
- *     for l = 2 and m = 0. That is little for a computer. A challenge that you pick yourself, after
- *     items and quotient are handed in, gives one try each time that they are.
+ *     again, as often as wanted, and nobody sees it. At one set of k positions, up to
+ *     (l - 1) * (m + 2) of the p - l challenges can pass for a list with a false item and one
+ *     quotient, so that one of these is drawn after some p / ((l - 1) * (m + 2)) tries: 36 million
+ *     for l = 8 and m = 6, a thousand million for l = 2 and m = 0. That is little for a computer,
+ *     and for positions that differ from fold to fold no theorem has a number. A challenge that you
+ *     pick yourself, after items and quotient are handed in, gives one try each time that they are.
  *   - What many challenges show (below). One list of items and one quotient have one drawn
  *     challenge, so that for l > 1 there are never enough of them. That statement is about
  *     challenges that are lent, whoever picked them, and no theorem is about tries.
@@ -182,12 +187,13 @@
  *      For one that is known beforehand, a quotient can be made that lets a false item pass.
  *      lomvuze_draw_challenge settles it where you draw from the items and the quotient that you
  *      verify, but for how many of them were tried.
- *   4. There are at least k different positions, picked after all that they test (items, quotient
- *      and new item, its root too), and not by the prover. With fewer that are known beforehand, a
- *      new witness that fits them and holds can be found for a false item. lomvuze_draw_positions
- *      settles when and by whom, where the seed is one that you drew and the root is that of the
- *      new item that you verify. That k are different it does not settle, nor how many new roots
- *      were tried: with one drawn position, a new witness that fits it is found after a few.
+ *   4. There are at least k different positions, the same k in every fold of a list, and not picked
+ *      by whoever made it: 0 to k - 1 will do. With fewer, a new witness that fits them and holds can
+ *      be found for a false item; k different ones leave no other new witness but by a SHA-256
+ *      collision. Where each fold has its own, lomvuze_draw_positions settles when they are picked
+ *      and by whom, where the seed is one that you drew and the root is that of the new item that
+ *      you verify. That k are different it does not settle, nor how many new roots were tried: with
+ *      one drawn position, a new witness that fits it is found after a few.
  *   5. lomvuze_verify and lomvuze_decide get the same bytes (the new item and the sizes), and
  *      lomvuze_decide gets the circuit and the points that were agreed on. Otherwise a fold of a
  *      false item is verified, another item is decided, and both verdicts are 0. Points that are
@@ -199,7 +205,9 @@
  *      where it accepts (see BLOCKS), so `if (lomvuze_verify(..) != 0)` is wrong: it is true for
  *      every accepted fold.
  *   7. Where a new item is folded again, its own fold is verified, verdict 0, with the very bytes
- *      that are folded above. Otherwise another item stands in its place, and every verdict is 0.
+ *      that are folded above, and both folds open the same k positions. Otherwise another item
+ *      can stand in its place, or its root show one witness below and another one above, and every
+ *      verdict be 0.
  *
  * What one accepted fold (both verdicts 0) establishes: the new item is the combination of exactly
  * the l items lent, at this challenge, and holds with a witness of its root; each of these items
@@ -209,11 +217,14 @@
  * theorem is about depth.
  *
  * What it does not establish: that any of the items holds, or that a root is that of a codeword.
- * Accepted at more than (l - 1) * (m + 2) challenges, with the same circuit, points, items,
- * quotient and k different positions, each of the l items holds with the one witness that the
- * opened values fix, or two different strings with one SHA-256 digest were hashed. An item that
- * holds at its r is not yet every row holding. A field of 31 bits gives no security level by
- * itself.
+ * Where folds with the same sizes, circuit, points, items and quotient all open the same k different
+ * positions, and are accepted at more than (l - 1) * (m + 2) different challenges, each of the l
+ * items holds with the one witness that the values opened there fix, or two different strings with
+ * one SHA-256 digest were hashed. That is a bound for each set of k positions, and no theorem counts
+ * over all sets: with other positions in each fold, a false list can pass at more challenges
+ * (examples/c/obligations). So open the same k positions in every fold of a list, or count for each
+ * set of k by itself the challenges whose folds open all of it (docs/AUDIT.md). An item that holds
+ * at its r is not yet every row holding. A field of 31 bits gives no security level by itself.
  *
  * THE CALLS, IN THE ORDER OF USE
  *
@@ -324,8 +335,8 @@
  *     lomvuze_read_sheet     50,688
  *
  *   From version 0.6.1 on trees are built four nodes at a time. Every root and opening is what it
- *   was, and takes less than half of the time. encode, cast, quotient, fold and decide took 4,608
- *   to 7,168 bytes of stack before.
+ *   was, and takes less time (README, "Measuring"). encode, cast, quotient, fold and decide took
+ *   4,608 to 7,168 bytes of stack before.
  *
  * - The time that a call takes may depend on the numbers in its buffers.
  */
@@ -343,7 +354,7 @@ extern "C" {
 
 #define LOMVUZE_VERSION_MAJOR 0
 #define LOMVUZE_VERSION_MINOR 6
-#define LOMVUZE_VERSION_PATCH 1
+#define LOMVUZE_VERSION_PATCH 2
 #define LOMVUZE_VERSION \
   LOMVUZE_TEXT(LOMVUZE_VERSION_MAJOR, LOMVUZE_VERSION_MINOR, LOMVUZE_VERSION_PATCH)
 #define LOMVUZE_TEXT(major, minor, patch) LOMVUZE_QUOTED(major, minor, patch)

@@ -1,6 +1,6 @@
 #!/usr/bin/env bash
 # Proves a crate and those that it stands on, and prints a line for each as it is proved. All that rt writes goes to target/prove-NAME.log; where
-# something is not proved, its last lines are shown.
+# something is not proved, its last lines are shown. No other run of rt comes between (make/alone.sh).
 #
 #   make/prove.sh staticlib NAME    a library: writes target/staticlib/libNAME.a
 #   make/prove.sh check NAME        a program: writes target/bin/NAME, and runs it on its stored input
@@ -8,6 +8,7 @@
 # Exit status: 0, that of rt, or 2 where rt is not there.
 set -euo pipefail
 cd "$(dirname "$0")/.."
+[ "${LOMVUZE_ALONE:-}" = "$(pwd -P)" ] || exec bash make/alone.sh bash make/prove.sh "$@"
 kind=$1 name=$2
 log=target/prove-$name.log
 expected=$(cat toolchain.txt)

@@ -1,9 +1,11 @@
 #!/usr/bin/env bash
 # The definitions beside the reference: writes closed equations between what the definitions of crates/theory and crates/draw
 # give and what the reference in rust/reference computes, and has the prover check each by computation. Run from anywhere; it
-# needs rt and cargo. Fails if an equation is refused, if there are none, or if one with a wrong number is accepted.
+# needs rt and cargo. Fails if an equation is refused, if there are none, or if one with a wrong number is accepted. No other run of rt comes between
+# (make/alone.sh).
 set -euo pipefail
 cd "$(dirname "$0")/.."
+[ "${LOMVUZE_ALONE:-}" = "$(pwd -P)" ] || exec bash make/alone.sh bash tests/agreement.sh
 
 folder=target/agreement
 rm -rf "$folder"

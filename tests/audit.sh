@@ -1,6 +1,6 @@
 #!/usr/bin/env bash
-# The auditor's pages are those of this repository: docs/READING.md is what docs/reading.sh writes now, and docs/AUDIT.md has the counts of definitions
-# and edits, the obligations' runs, the cases, the listing and the toolchain's version as they are.
+# The auditor's pages are those of this repository: docs/READING.md is what docs/reading.sh writes now and has every theorem that a page names,
+# and docs/AUDIT.md has the counts of definitions and edits, the obligations' runs, the cases, the listing and the toolchain's version as they are.
 set -euo pipefail
 cd "$(dirname "$0")/.."
 page=docs/AUDIT.md
@@ -16,6 +16,15 @@ shows "$(rests 'all the calls' 'all the calls together')" 'count of the definiti
 shows "$(sed 's/^/    /' examples/sheets/case-8.listing)" 'listing of case 8'
 shows "$(cat examples/c/obligations/table.expected)" 'table of obligations'
 shows "has $(find crates -path '*/must-fail/*.edit' | wc -l) edits" 'count of edits'
+
+# Every theorem that a page names, a law of proofs/, is in the reading list.
+named=0
+for name in $(grep -ohE '`[a-zA-Z0-9]+(-[a-z0-9]+)+`' docs/AUDIT.md docs/SHEETS.md README.md | tr -d '`' | sort -u); do
+    grep -qE "^ *pub $name :" crates/*/proofs/*.antt || continue
+    grep -qF "| \`$name\` |" docs/READING.md || { echo "FAILED: a page names \`$name\`, and docs/READING.md has not what it rests on"; exit 1; }
+    named=$((named + 1))
+done
+[ "$named" -gt 20 ] || { echo "FAILED: only $named theorems are named"; exit 1; }
 
 # The greatest numbers of challenges.
 for l in 1 2 3 4 5 6 7 8; do
@@ -44,4 +53,4 @@ if [ -z "$expected" ] || [ "$expected" != "$listed" ]; then
     diff <(echo "$expected") <(echo "$listed")
     exit 1
 fi
-echo "audit: the reading list, $shown figures and outputs, and $(wc -l <<<"$expected") lines of cases as they are"
+echo "audit: the reading list with the $named theorems that pages name, $shown figures and outputs, and $(wc -l <<<"$expected") lines of cases as they are"

@@ -2,9 +2,12 @@
 # The library for C and C++: the header beside what is exported (tests/header.sh); headers and examples under each compiler and standard, without a
 # warning; what the headers have beside the calls, and drawing by hash (tests/c); and the examples, run (tests/examples.sh).
 # LOMVUZE_STATICLIB names another folder with libverdicts.a in it; nothing is proved then. The programs are run by the command that LOMVUZE_RUN
-# gives, if any (tests/valgrind.sh).
+# gives, if any (tests/valgrind.sh). Needs gcc and clang, for C and C++.
 set -euo pipefail
 cd "$(dirname "$0")/.."
+for compiler in gcc clang g++ clang++; do
+    command -v $compiler >/dev/null || { echo "FAILED: there is no $compiler on PATH"; exit 1; }
+done
 bash tests/header.sh
 make -s all
 library=target/liblomvuze.a
@@ -16,7 +19,6 @@ flags=(-Wall -Wextra -Wpedantic -Wconversion -Wsign-conversion -Wshadow -Wundef 
 plus=("${flags[@]}" -Wold-style-cast)
 ways=0
 for compiler in gcc clang; do
-    command -v $compiler >/dev/null || continue
     for standard in c11 c17; do
         for source in c/*.c tests/c/*.c examples/c/{fold_batch,verify_batch,decide_one,own_points}.c; do
             $compiler -std=$standard "${flags[@]}" -Wstrict-prototypes -fsyntax-only $source
@@ -25,7 +27,6 @@ for compiler in gcc clang; do
     done
 done
 for compiler in g++ clang++; do
-    command -v $compiler >/dev/null || continue
     for standard in c++11 c++14 c++17 c++20; do
         $compiler -std=$standard "${plus[@]}" -fsyntax-only tests/c/containers.cc
         $compiler -std=$standard "${plus[@]}" -fsyntax-only -x c++ tests/c/lengths.c
@@ -33,7 +34,6 @@ for compiler in g++ clang++; do
         ways=$((ways + 1))
     done
 done
-[ "$ways" -gt 0 ] || { echo 'FAILED: no compiler was found'; exit 1; }
 echo "C and C++: no warning under $ways compilers and standards"
 
 # ---- What the headers have beside the calls, and drawing by hash

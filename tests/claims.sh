@@ -4,10 +4,10 @@
 set -euo pipefail
 cd "$(dirname "$0")/.."
 if [ -z "${LOMVUZE_BIN:-}" ]; then
-    rt check claims
+    bash make/alone.sh rt check claims
 fi
 if [ -z "${LOMVUZE_STATICLIB:-}" ]; then
-    rt staticlib verdicts
+    bash make/alone.sh rt staticlib verdicts
 fi
 claims="${LOMVUZE_BIN:-target/bin}/claims"
 folder=$(mktemp -d)

@@ -57,6 +57,9 @@ demo 2 'without rt' 'there is no rt on PATH' "$version"
 
 total=$(awk '/^verdicts:/ { print NF }' crates.txt)
 stand_in "$version" "$proves"
+mv "$folder/tools/flock" "$folder/flock"
+demo 2 'without flock' 'flock, which keeps two runs of rt apart, is missing'
+mv "$folder/flock" "$folder/tools/flock"
 demo 0 'proving' 'target/prove-verdicts.log' '  1 of ' '  1 s' 'decide 0: accepted'
 ! grep -q warning "$folder/out" || fail 'proving: a warning'
 [ "$(tail -n +"$(($(grep -n '^proved in' "$folder/out" | cut -d: -f1) + 1))" "$folder/out")" = "$expected" ] || fail 'proving: another demo'

@@ -2,12 +2,15 @@
 # What `make install` puts in place: installs into a temporary folder whose name has a space, builds the installed examples and a C++ program with
 # what pkg-config gives alone, with the shared library and with the archive, and runs them and the installed program on stored input; looks at what
 # the shared library exports, at documents and man pages; and removes all again. LOMVUZE_STATICLIB and LOMVUZE_BIN name other folders with
-# libverdicts.a and with the program in them; nothing is proved then.
+# libverdicts.a and with the program in them; nothing is proved then. Needs C and C++ compilers, pkg-config, binutils, man and groff.
 set -euo pipefail
 cd "$(dirname "$0")/.."
 folder=$(mktemp -d)
 trap 'rm -rf "$folder"' EXIT
 fail() { printf 'FAILED: %s\n' "$1"; exit 1; }
+for tool in pkg-config readelf man groff; do
+    command -v $tool >/dev/null || fail "there is no $tool on PATH"
+done
 to="$folder/a prefix"
 examples="$to/share/doc/lomvuze/examples"
 export PKG_CONFIG_LIBDIR="$to/lib/pkgconfig"
@@ -61,15 +64,11 @@ for name in $declared; do
     grep -q "^\.Nm $name\( ,\)\?$" "$to/share/man/man3/lomvuze.3" || fail "lomvuze.3 does not name $name"
     [ "$(cat "$to/share/man/man3/$name.3")" = '.so man3/lomvuze.3' ] || fail "$name.3"
 done
-if command -v man >/dev/null && command -v groff >/dev/null; then
-    for page in man1/claims.1 man3/lomvuze.3; do
-        warnings=$(man --warnings -E UTF-8 -l -Tutf8 -Z "$to/share/man/$page" 2>&1 >/dev/null)
-        [ -z "$warnings" ] || fail "$page: $warnings"
-    done
-    [[ "$(man -M "$to/share/man" 3 lomvuze_verify 2>/dev/null)" == *'the new item is not the one of the challenge'* ]] || fail 'man lomvuze_verify'
-else
-    echo 'note: man or groff is not here, so that the man pages were not laid out'
-fi
+for page in man1/claims.1 man3/lomvuze.3; do
+    warnings=$(man --warnings -E UTF-8 -l -Tutf8 -Z "$to/share/man/$page" 2>&1 >/dev/null)
+    [ -z "$warnings" ] || fail "$page: $warnings"
+done
+[[ "$(man -M "$to/share/man" 3 lomvuze_verify 2>/dev/null)" == *'the new item is not the one of the challenge'* ]] || fail 'man lomvuze_verify'
 
 # ---- The same files under DESTDIR, and the prefix without it; a prefix that is no full path; and nothing is left
 make -s install DESTDIR="$folder/packed here" PREFIX=/usr

@@ -5,7 +5,7 @@
 # LOMVUZE_STATICLIB names another folder with libverdicts.a in it; nothing is proved then.
 set -euo pipefail
 cd "$(dirname "$0")/.."
-[ -n "${LOMVUZE_STATICLIB:-}" ] || rt staticlib verdicts
+[ -n "${LOMVUZE_STATICLIB:-}" ] || bash make/alone.sh rt staticlib verdicts
 archive=${LOMVUZE_STATICLIB:-target/staticlib}/libverdicts.a
 folder=$(mktemp -d)
 trap 'rm -rf "$folder"' EXIT

@@ -6,8 +6,8 @@
 set -euo pipefail
 cd "$(dirname "$0")/.."
 if [ -z "${LOMVUZE_STATICLIB:-}" ]; then
-    rt staticlib harness
-    rt staticlib verdicts
+    bash make/alone.sh rt staticlib harness
+    bash make/alone.sh rt staticlib verdicts
 fi
 cargo test --release --offline --manifest-path rust/Cargo.toml
 

@@ -104,10 +104,12 @@ fn verdict(
     if !checks::points::differ(ks, points) {
         return 12;
     }
-    if !checks::order::circuit_in_order(ms, ns, ks, a, b, c) {
+    let in_order = checks::order::circuit_in_order(ms, ns, ks, a, b, c);
+    let leads = checks::leading::leading_one(ns, x);
+    if !in_order {
         return 4;
     }
-    if !checks::leading::leading_one(ns, x) {
+    if !leads {
         return 13;
     }
     if !holds(ms, ns, ks, a, b, c, r, x, w) {

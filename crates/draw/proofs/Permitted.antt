@@ -1,4 +1,4 @@
--- What drawing writes is permitted, of whatever bytes it was drawn: a challenge passes 5, positions pass 2 and 6, and r passes 2 and 3 of casting.
+-- What drawing writes is permitted, of whatever bytes it was drawn: a challenge passes 5, positions pass 2 and 6, and r has its length and passes 3.
 use mathlib.Core.Path.{_≡_, ap, _∙_}
 use mathlib.Core.Bool.{true}
 use mathlib.Core.List.{List}

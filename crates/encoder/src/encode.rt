@@ -27,10 +27,12 @@ fn verdict(k: u32, points: &[u8], w: &[u8], code: &[u8], root: &[u8]) -> u32
     if !fits(k, points, w, code, root) {
         return 2;
     }
-    if !checks::elements::elements_below(w, k as usize) {
+    let below = checks::elements::elements_below(w, k as usize);
+    let differ = checks::points::differ(k as usize, points);
+    if !below {
         return 3;
     }
-    if !checks::points::differ(k as usize, points) {
+    if !differ {
         return 12;
     }
     0

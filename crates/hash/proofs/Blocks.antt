@@ -2,13 +2,13 @@
 -- Assumes nothing.
 use mathlib.Core.Path.{_≡_, refl, sym, ap, ap₂, _∙_}
 use mathlib.Core.List.{List, _++_}
-use Prim.Native.Nat.{ℕ, zero, suc, _+_, _*_, _/_, _%_, _≤_}
+use Prim.Native.Nat.{ℕ, zero, suc, _+_, _-_, _*_, _/_, _%_, _≤_}
 use native.Mathlib.Numerals.{add-one}
 use native.Mathlib.Nat.{add-zero, add-suc}
 use native.Mathlib.Omega.{arith}
-use lib.ListN.{length, getD, drop, length-drop, List·getD-append}
+use lib.ListN.{length, getD, drop, replicate, length-drop, List·getD-append}
 use lib.Seq.{getD-drop}
-use Rattle.hash.specs.Sha256.{H₀, padding, pad, words, blockCount, compress, hash, bytes, digest}
+use Rattle.hash.specs.Sha256.{H₀, padding, pad, paddedIn, words, blockCount, compress, hash, bytes, digest}
 use Rattle.hash.proofs.Fill.{upTo-ext}
 use Rattle.hash.proofs.Pad.{length-pad}
 
@@ -80,8 +80,8 @@ pub all-counted : (m : List ℕ) {whole all : ℕ} → whole ≡ 0 + length m / 
 unfolding blockCount
 all-counted m e-w e-a = omega (arith, e-w, e-a, length-pad m)
 
--- the blocks of a padded message, where more bytes follow it
-pub padded-digest : (m z p : List ℕ) (n : ℕ) → p ≡ pad m ++ z → n ≡ blockCount m → bytes (hash H₀ p n) 8 ≡ digest m
-unfolding digest blockCount
-padded-digest m z p n e-p e-n =
-    ap (λ (x : List ℕ). bytes x 8) (ap₂ (hash H₀) e-p e-n ∙ hash-append H₀ (pad m) z (length (pad m) / 64) (omega arith))
+-- the blocks of a padded message, also where zeros follow it
+pub padded-digest : (m : List ℕ) (size : ℕ) {p : List ℕ} {n : ℕ} → p ≡ paddedIn size m → blockCount m ≡ n → bytes (hash H₀ p n) 8 ≡ digest m
+unfolding paddedIn digest blockCount
+padded-digest m size e-p e-n =
+    ap (λ (x : List ℕ). bytes x 8) (ap₂ (hash H₀) e-p (sym e-n) ∙ hash-append H₀ (pad m) (replicate (size - length (pad m)) 0) (length (pad m) / 64) (omega arith))

@@ -5,6 +5,6 @@ pub mod Copy
 pub mod Bytes
 pub mod Pad
 pub mod Blocks
+pub mod DigestLaws
 pub mod Tree
 pub mod Vectors
-pub mod DigestLaws

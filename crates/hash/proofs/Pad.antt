@@ -7,7 +7,7 @@ use native.Mathlib.Nat.{le-of-eq, zero-add}
 use native.Mathlib.Omega.{arith}
 use lib.ListN.{length, take, drop, set, replicate, length-append, length-drop, length-replicate, replicate-append-replicate, take-append-drop}
 use lib.Seq.{set-at, take-at, drop-at, drop-append-add, take-all, length-take-le, drop-append-le}
-use Rattle.hash.specs.Sha256.{inBytes, zeros, padding, pad}
+use Rattle.hash.specs.Sha256.{inBytes, zeros, padding, pad, paddedIn}
 use Rattle.hash.proofs.Bytes.{length-inBytes}
 
 length-padding : (l : ℕ) → length (padding l) ≡ 9 + zeros l
@@ -81,8 +81,8 @@ zeros-behind x b n l few e-b =
 -- a short message m, written at the front of 128 zeros, and its padding behind it
 pub padded-is : (m b out : List ℕ) → b ≡ m ++ drop (0 + length m) (replicate 128 0)
     → out ≡ take (length m) b ++ padding (length m) ++ replicate (128 - length m - length (padding (length m))) 0
-    → out ≡ pad m ++ replicate (128 - length (pad m)) 0
-unfolding pad
+    → out ≡ paddedIn 128 m
+unfolding pad paddedIn
 padded-is m b out e-b e-out =
     let a = length-append m (padding (length m)) in
     let left : 128 - length m - length (padding (length m)) ≡ 128 - length (m ++ padding (length m)) = omega arith in

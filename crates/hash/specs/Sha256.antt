@@ -51,6 +51,10 @@ padding l = 0x80 ∷ (replicate (zeros l) 0 ++ inBytes 8 (8 * l))
 unfoldable pub pad : List ℕ → List ℕ
 pad m = m ++ padding (length m)
 
+-- the padded message, and behind it zeros up to n bytes in all
+unfoldable pub paddedIn : ℕ → List ℕ → List ℕ
+paddedIn n m = pad m ++ replicate (n - length (pad m)) 0
+
 -- ---- 5.2.1: parsing into blocks of sixteen words, which are 64 bytes
 
 -- the number of blocks that a message is processed in: those of the padded message

@@ -3,7 +3,7 @@ ghost use mathlib.Core.Path.{_≡_};
 ghost use mathlib.Core.List.{_∷_, _++_};
 ghost use Prim.Native.Nat.{_+_, _^_, _≤_, _<_};
 ghost use lib.ListN.{length, take};
-ghost use Rattle.hash.specs.Sha256.{H₀, blockCount, hash, bytes, digest};
+ghost use Rattle.hash.specs.Sha256.{paddedIn, blockCount, digest};
 
 pub mod compress;
 pub mod message;
@@ -75,7 +75,7 @@ pub fn leaf(position: [u8; 4], value: &[u8]) -> Hashed
 // The padded message of a leaf: one block, and zeros behind it.
 pub fn padded_leaf(position: [u8; 4], value: &[u8]) -> [u8; 128]
     requires { ⌜ length (now value) ≤ 16 ⌝ }
-    ensures { λ r. ⌜ bytes (hash H₀ r 1) 8 ≡ digest (0x00 ∷ (position ++ now (value .entry))) ⌝ }
+    ensures { λ r. ⌜ (r ≡ paddedIn 128 (0x00 ∷ (position ++ now (value .entry)))) × (blockCount (0x00 ∷ (position ++ now (value .entry))) ≡ 1) ⌝ }
 {
     let msg = leaf_message(position, value);
     message::padded(&msg[..5 + value.len()])
@@ -101,7 +101,7 @@ pub fn node(left: [u8; 32], right: [u8; 32]) -> Hashed
 
 // The padded message of an inner node, which is two blocks.
 pub fn padded_node(left: [u8; 32], right: [u8; 32]) -> [u8; 128]
-    ensures { λ r. ⌜ bytes (hash H₀ r 2) 8 ≡ digest (0x01 ∷ (left ++ right)) ⌝ }
+    ensures { λ r. ⌜ (r ≡ paddedIn 128 (0x01 ∷ (left ++ right))) × (blockCount (0x01 ∷ (left ++ right)) ≡ 2) ⌝ }
 {
     message::padded(&node_message(left, right))
 }

@@ -3,7 +3,7 @@ ghost use mathlib.Core.Path.{_≡_};
 ghost use mathlib.Core.List.{_++_};
 ghost use Prim.Native.Nat.{_+_, _-_, _*_, _%_, _^_, _<_, _≤_};
 ghost use lib.ListN.{length, take, drop, replicate};
-ghost use Rattle.hash.specs.Sha256.{byte, inBytes, padding, pad, words, bytes};
+ghost use Rattle.hash.specs.Sha256.{byte, inBytes, padding, paddedIn, words, bytes};
 
 // Byte n of x, counted from the lowest.
 fn byte(n: u64, x: u64) -> u8
@@ -83,7 +83,7 @@ pub fn close(b: &mut [u8], at: usize, len: usize)
 // A message of at most 119 bytes, padded. Zeros follow the one or two blocks.
 pub fn padded(msg: &[u8]) -> [u8; 128]
     requires { ⌜ length (now msg) < 120 ⌝ }
-    ensures { λ r. ⌜ r ≡ pad (now (msg .entry)) ++ replicate (128 - length (pad (now (msg .entry)))) 0 ⌝ }
+    ensures { λ r. ⌜ r ≡ paddedIn 128 (now (msg .entry)) ⌝ }
 {
     let mut b = [0u8; 128];
     copy(&mut b, 0, msg);

@@ -14,8 +14,12 @@ use Rattle.numbers.proofs.Bytes.{length-bytes}
 use Rattle.numbers.proofs.Tests.{and-left, and-right}
 use Rattle.lines.specs.Text.{allPass, decimal, isNumber, hexBytes}
 use Rattle.lines.specs.Lines.{front, last}
-use Rattle.lines.specs.Cursor.{isItem, numberBytes, itemBytes, placed, appended, appendedNumbers, appendedItem, Appended}
+use Rattle.lines.specs.Cursor.{isItem, numberBytes, itemBytes, placed, appended, appendedNumbers, appendedItem}
 use Rattle.lines.proofs.LineLengths.{item-parts, root-length}
+
+-- For a whole line: the buffer keeps its length and, if there is room for all of xs, has xs behind its first `count` numbers.
+abbrev pub Appended : ℕ → List ℕ → List ℕ → List ℕ → Type 0
+Appended count xs held now = (length now ≡ length held) × (4 * count + length xs ≤ length held → now ≡ placed (4 * count) xs held)
 
 -- ---- how long numbers and roots are
 pub length-numberBytes : (fs : List (List ℕ)) → length (numberBytes fs) ≡ 4 * length fs

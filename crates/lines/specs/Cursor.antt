@@ -1,8 +1,7 @@
 -- Where the fields and lines of a text lie: the field and the line that start at an index, what is read there, and what a buffer holds then.
 use mathlib.Core.Bool.{Bool, true, false, cond, _&&_, _||_}
-use mathlib.Core.Path.{_≡_}
 use mathlib.Core.List.{List, [], _∷_, _++_, map}
-use Prim.Native.Nat.{ℕ, _+_, _*_, _≤_, min}
+use Prim.Native.Nat.{ℕ, _+_, _*_, min}
 use lib.ListN.{length, getD, take, drop, replicate}
 use lib.Dec.{eqb, leb, ltb}
 use Rattle.numbers.specs.Numbers.{bytes4, bytes}
@@ -96,7 +95,3 @@ appendedItem count fs held =
     cond (isItem fs)
     (appended (count + length (front fs)) (hexBytes (last fs)) (appendedNumbers count (front fs) held))
     (appendedNumbers count (front fs) held)
-
--- For a whole line: the buffer keeps its length and, if there is room for all of xs, has xs behind its first `count` numbers.
-abbrev pub Appended : ℕ → List ℕ → List ℕ → List ℕ → Type 0
-Appended count xs held now = (length now ≡ length held) × (4 * count + length xs ≤ length held → now ≡ placed (4 * count) xs held)

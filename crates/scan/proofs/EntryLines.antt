@@ -1,24 +1,22 @@
--- The entries of a sheet in order stand before its first item: a scan that has read that far has read them all.
+-- The entries of a sheet in order stand before its first item: a pass that has read that far has read them all.
 use mathlib.Core.Path.{_≡_, refl, sym, ap, _∙_}
-use mathlib.Core.Bool.{Bool, true, false, not, _&&_, false≢true}
+use mathlib.Core.Bool.{Bool, true, false, false≢true}
 use mathlib.Core.List.{List, [], _∷_, _++_, map, append-nil}
 use Prim.Native.Nat.{ℕ}
-use lib.ListN.{length, drop}
 use Rattle.numbers.proofs.Tests.{and-left, and-right}
 use Rattle.lines.specs.declared.keyword.Keyword.{Keyword}
 use Rattle.lines.specs.declared.keyword.Keyword.the-variants.{Size, EntryA, EntryB, EntryC, Item, Wit, End, None}
 use Rattle.scan.specs.declared.state.State.{State}
-use Rattle.lines.specs.Text.{lines}
 use Rattle.lines.specs.Lines.{Line, lineOf}
-use Rattle.scan.specs.Sheet.{sameKeyword, oneOf, follows, orderedAfter, ordered, sheetLines, having, bytesOf}
-use Rattle.scan.specs.Scan.{lastKeyword, stateAfter, SameEntries, LinesRead, EntriesRead}
+use Rattle.scan.specs.Sheet.{sameKeyword, oneOf, follows, orderedAfter, ordered, sheetLines, having}
+use Rattle.scan.proofs.StateAfter.{lastKeyword}
 use Rattle.scan.proofs.SheetLaws.{same-keyword, having-append}
 use Rattle.scan.proofs.ScanLaws.{prefix-order}
-use Rattle.scan.proofs.Scanned.{Scanned, filled}
+use Rattle.scan.proofs.ReadLines.{ReadLines}
 
 -- ---- behind an item
 
-abbrev behindItems : Keyword → Bool
+abbrev pub behindItems : Keyword → Bool
 behindItems v = oneOf (Item ∷ Wit ∷ End ∷ []) v
 
 stays-behind : (v w : Keyword) → behindItems v ≡ true → follows v w ≡ true → behindItems w ≡ true
@@ -61,53 +59,17 @@ none-behind u n v p (l ∷ ls) o =
         go true e = absurd (false≢true (sym n ∙ ap behindItems (same-keyword u (l .keyword) e) ∙ stays))
         go false e = refl
 
--- ---- the entries of a sheet
+-- ---- the lines with a keyword
 
--- Where all lines are read, the entries are.
-entries-of : (s : List ℕ) (st : State) (a₀ b₀ c₀ items₀ wits₀ a b c items wits : List ℕ) → LinesRead s st a₀ b₀ c₀ items₀ wits₀ a b c items wits → EntriesRead s st a₀ b₀ c₀ a b c
-entries-of s st a₀ b₀ c₀ items₀ wits₀ a b c items wits h =
-    (λ o. (ap (λ x. x .sizes) (h .1 .0 o), ap (λ x. x .entries) (h .1 .0 o)), (h .1 .1 .0, (h .1 .1 .1 .0, h .1 .1 .1 .1 .0)))
-
--- So they are behind an item.
-module _ (s a₀ b₀ c₀ items₀ wits₀ a b c items wits : List ℕ) (st : State) (so-far : Scanned s a₀ b₀ c₀ items₀ wits₀ a b c items wits st) (h : sameKeyword (st .last) Item ≡ true) where
+-- Where the last line read is an item, and the sheet is in order, all lines with a keyword that stands before the items are read.
+module _ {s : List ℕ} {w : Keyword} {held₀ held : List ℕ} {texts : List (List ℕ)} {st : State} (read : ReadLines s w held₀ texts st held) (o : ordered (sheetLines s) ≡ true) where
   abbrev ls : List Line
-  ls = so-far .ls
+  ls = read .ls
 
-  abbrev rest : List Line
-  rest = map lineOf (lines (drop (st .at) s))
+  goes-on : orderedAfter (lastKeyword ls) (map lineOf texts) ≡ true
+  goes-on = sym (prefix-order ls (read .in-order) (map lineOf texts)) ∙ ap ordered (sym (read .split)) ∙ o
 
-  module _ (o : ordered (sheetLines s) ≡ true) where
-    goes-on : orderedAfter (lastKeyword ls) rest ≡ true
-    goes-on = sym (prefix-order ls (so-far .in-order) rest) ∙ ap ordered (sym (so-far .split)) ∙ o
-
-    at-item : behindItems (lastKeyword ls) ≡ true
-    at-item = ap behindItems (sym (ap (λ x. x .last) (so-far .state)) ∙ same-keyword (st .last) Item h)
-
-    all : (u : Keyword) → behindItems u ≡ false → having u (sheetLines s) ≡ having u ls
-    all u n = ap (having u) (so-far .split) ∙ having-append u ls rest ∙ ap (λ hs. having u ls ++ hs) (none-behind u n (lastKeyword ls) at-item rest goes-on) ∙ append-nil (having u ls)
-
-    same-entries : SameEntries st (stateAfter (sheetLines s) (length s))
-    same-entries = (rw (all Size refl) (ap (λ x. x .sizes) (so-far .state)), rw (all EntryA refl, all EntryB refl, all EntryC refl) (ap (λ x. x .entries) (so-far .state)))
-
-  entries-read : EntriesRead s st a₀ b₀ c₀ a b c
-  entries-read =
-      let in-a = filled (bytesOf EntryA ls) a₀ a (so-far .in-a) in
-      let in-b = filled (bytesOf EntryB ls) b₀ b (so-far .in-b) in
-      let in-c = filled (bytesOf EntryC ls) c₀ c (so-far .in-c) in
-      (same-entries, (λ o. rw (all o EntryA refl) in-a, (λ o. rw (all o EntryB refl) in-b, λ o. rw (all o EntryC refl) in-c)))
-
--- What a reading promises: of all lines where it is whole, and of the entries always.
-abbrev pub PartRead : Bool → List ℕ → State → List ℕ → List ℕ → List ℕ → List ℕ → List ℕ → List ℕ → List ℕ → List ℕ → List ℕ → List ℕ → Type 0
-PartRead whole s st a₀ b₀ c₀ items₀ wits₀ a b c items wits = (whole ≡ true → LinesRead s st a₀ b₀ c₀ items₀ wits₀ a b c items wits) × EntriesRead s st a₀ b₀ c₀ a b c
-
-pub read-all : (whole : Bool) (s : List ℕ) (st : State) (a₀ b₀ c₀ items₀ wits₀ a b c items wits : List ℕ) → LinesRead s st a₀ b₀ c₀ items₀ wits₀ a b c items wits
-    → PartRead whole s st a₀ b₀ c₀ items₀ wits₀ a b c items wits
-read-all whole s st a₀ b₀ c₀ items₀ wits₀ a b c items wits h = (λ _. h, entries-of s st a₀ b₀ c₀ items₀ wits₀ a b c items wits h)
-
--- Left behind an item, where not all lines are asked for.
-pub read-entries : (whole : Bool) {at-item : Bool} (s a₀ b₀ c₀ items₀ wits₀ a b c items wits : List ℕ) (st : State) → Scanned s a₀ b₀ c₀ items₀ wits₀ a b c items wits st
-    → at-item ≡ sameKeyword (st .last) Item → (not whole && at-item) ≡ true → PartRead whole s st a₀ b₀ c₀ items₀ wits₀ a b c items wits
-read-entries whole {at-item} s a₀ b₀ c₀ items₀ wits₀ a b c items wits st so-far e h = (
-  λ w. absurd (false≢true (sym (ap not w) ∙ and-left (not whole) at-item h)),
-  entries-read s a₀ b₀ c₀ items₀ wits₀ a b c items wits st so-far (sym e ∙ and-right (not whole) at-item h),
-)
+  pub all-before : sameKeyword (st .last) Item ≡ true → (u : Keyword) → behindItems u ≡ false → having u (sheetLines s) ≡ having u ls
+  all-before h u n =
+      let at-item : behindItems (lastKeyword ls) ≡ true = ap behindItems (sym (ap (λ x. x .last) (read .state)) ∙ same-keyword (st .last) Item h) in
+      ap (having u) (read .split) ∙ having-append u ls (map lineOf texts) ∙ ap (λ hs. having u ls ++ hs) (none-behind u n (lastKeyword ls) at-item (map lineOf texts) goes-on) ∙ append-nil (having u ls)

@@ -1,7 +1,11 @@
 mod EntryLines
 mod KeywordLines
+mod LineBuffers
 mod LineReading
 mod LineStates
+mod ReadLines
 mod ScanLaws
-mod Scanned
+mod ScanLoop
+pub mod Scanned
 pub mod SheetLaws
+pub mod StateAfter

@@ -1,46 +1,60 @@
 -- Reading the line at the state's index: by its first field and the fields behind it, with a tab between them.
-use mathlib.Core.Path.{_≡_, sym, ap, _∙_}
-use mathlib.Core.Bool.{true, false, false≢true, true≢false}
+use mathlib.Core.Path.{_≡_, refl, sym, ap, _∙_}
+use mathlib.Core.Bool.{Bool, true, false, cond, _&&_, false≢true, true≢false}
 use mathlib.Core.Logic.{_⊎_, inl, inr, ⊎-elim}
 use mathlib.Core.List.{List, [], _∷_}
-use Prim.Native.Nat.{ℕ, _+_, _*_, _≤_, _<_}
+use Prim.Native.Nat.{ℕ, _+_, _≤_, _<_}
 use native.Mathlib.Omega.{arith}
+use borrow.Author.Tests.{eq-eqb}
 use lib.ListN.{length, getD}
 use Rattle.lines.specs.declared.keyword.Keyword.{Keyword}
 use Rattle.lines.specs.declared.keyword.Keyword.the-variants.{EntryA, EntryB, EntryC, Item, Wit, None}
 use Rattle.scan.specs.declared.state.State.{State}
-use Rattle.lines.specs.Lines.{Line, keywordOf, lineWith, lineOfFields, lineOf}
-use Rattle.lines.specs.Cursor.{fieldAt, fieldEnd, fieldsAt, nextLine, Appended}
-use Rattle.scan.specs.Sheet.{sameKeyword, follows, having, lineBytes, bytesOf}
-use Rattle.scan.specs.Scan.{stopped, advanceBy, advance, step, lineHere, mayStand, Bounded}
+use Rattle.lines.specs.Text.{allPass}
+use Rattle.lines.specs.Lines.{Line, keywordOf, front, lineWith, lineOfFields, lineOf}
+use Rattle.lines.specs.Cursor.{fieldAt, fieldEnd, fieldsAt, nextLine, appendedNumbers, appendedItem}
+use Rattle.scan.specs.Sheet.{number, sameKeyword, follows}
+use Rattle.scan.specs.Scan.{stopped, advanceBy, advance, step, lineHere, mayStand, Bounded, countIn, fieldsInto, lineInto}
 use Rattle.lines.proofs.FieldEnds.{first-field, tab-within, tab-fields, tab-next}
 use Rattle.lines.proofs.LineLengths.{next-within}
-use Rattle.lines.proofs.AppendLaws.{appended-none}
-use Rattle.scan.proofs.ScanLaws.{follows-none, advance-last, step-on, step-off}
+use Rattle.scan.proofs.ScanLaws.{follows-none, step-on, step-off}
 use Rattle.scan.proofs.KeywordLines.{Kept, kept, keyword-or-none, alone-broken, advance-bounded}
+
+-- The buffer for the lines with the keyword w behind it.
+abbrev into : Keyword → List ℕ → State → List ℕ → List ℕ
+into w s st held = lineInto w st (fieldsAt s (st .at)) held
 
 -- What reading it promises.
 abbrev pub LineRead : List ℕ → State → List ℕ → List ℕ → List ℕ → List ℕ → List ℕ → List ℕ → List ℕ → List ℕ → List ℕ → List ℕ → State → Type 0
 LineRead s st a b c items wits a′ b′ c′ items′ wits′ r =
     (r ≡ step st (lineHere s st) (nextLine s (st .at)))
     × ((mayStand s st → Bounded (length s) r)
-    × ((mayStand s st → Appended (3 * st .entries .a) (bytesOf EntryA (lineHere s st ∷ [])) a a′)
-    × ((mayStand s st → Appended (3 * st .entries .b) (bytesOf EntryB (lineHere s st ∷ [])) b b′)
-    × ((mayStand s st → Appended (3 * st .entries .c) (bytesOf EntryC (lineHere s st ∷ [])) c c′)
-    × ((mayStand s st → Appended (st .pairs .items) (bytesOf Item (lineHere s st ∷ [])) items items′)
-    × (mayStand s st → Appended (st .pairs .wits) (bytesOf Wit (lineHere s st ∷ [])) wits wits′))))))
+    × ((a′ ≡ into EntryA s st a)
+    × ((b′ ≡ into EntryB s st b)
+    × ((c′ ≡ into EntryC s st c)
+    × ((items′ ≡ into Item s st items)
+    × (wits′ ≡ into Wit s st wits))))))
+
+-- A keyword that may not follow changes no buffer, and neither does a keyword alone.
+into-refused : (w : Keyword) (st : State) (f : List ℕ) (fs : List (List ℕ)) (held : List ℕ) → follows (st .last) (keywordOf f) ≡ false → held ≡ lineInto w st (f ∷ fs) held
+unfolding lineInto
+into-refused w st f fs held h = sym (ap (λ t. cond (t && sameKeyword w (keywordOf f)) (fieldsInto w (countIn w st) fs held) held) h)
+
+into-alone : (w : Keyword) (st : State) (f held : List ℕ) → held ≡ lineInto w st (f ∷ []) held
+unfolding lineInto appendedItem appendedNumbers front allPass
+into-alone w st f held = same (follows (st .last) (keywordOf f) && sameKeyword w (keywordOf f)) (sameKeyword w Item)
+  where
+    same : (t u : Bool) → held ≡ cond t (cond u held held) held
+    same true true = refl
+    same true false = refl
+    same false u = refl
 
 -- A line that may not stand there.
 module _ (s : List ℕ) (st r : State) (e : r ≡ stopped st) where
-  refused : follows (st .last) (lineHere s st .keyword) ≡ false → (a b c items wits : List ℕ) → LineRead s st a b c items wits a b c items wits r
-  refused f a b c items wits = (e ∙ sym (step-off st (lineHere s st) (nextLine s (st .at)) f), (never, (never, (never, (never, (never, never))))))
-    where
-      never : {A : Type 0} → mayStand s st → A
-      never m = absurd (true≢false (sym m ∙ f))
-
-  -- a broken line
-  broken-refused : lineHere s st .keyword ≡ None → (a b c items wits : List ℕ) → LineRead s st a b c items wits a b c items wits r
-  broken-refused k = refused (ap (follows (st .last)) k ∙ follows-none (st .last))
+  refused : ((w : Keyword) (held : List ℕ) → held ≡ into w s st held) → follows (st .last) (lineHere s st .keyword) ≡ false
+      → (a b c items wits : List ℕ) → LineRead s st a b c items wits a b c items wits r
+  refused left f a b c items wits =
+      (e ∙ sym (step-off st (lineHere s st) (nextLine s (st .at)) f), (λ m. absurd (true≢false (sym m ∙ f)), (left EntryA a, (left EntryB b, (left EntryC c, (left Item items, left Wit wits))))))
 
   -- a keyword that may not follow
   pub word-refused : follows (st .last) (keywordOf (fieldAt s (st .at))) ≡ false → (a b c items wits : List ℕ) → LineRead s st a b c items wits a b c items wits r
@@ -49,12 +63,17 @@ module _ (s : List ℕ) (st r : State) (e : r ≡ stopped st) where
       let fs = first-field s (st .at) in
       let w = keywordOf (fieldAt s (st .at)) in
       let l : lineHere s st .keyword ≡ lineWith w (fs .0) .keyword = ap (λ x. lineOfFields x .keyword) (fs .1) in
-      ⊎-elim (λ k. refused (ap (follows (st .last)) (l ∙ k) ∙ f)) (λ k. broken-refused (l ∙ k)) (keyword-or-none w (fs .0))
+      refused
+      (λ v held. into-refused v st (fieldAt s (st .at)) (fs .0) held f ∙ ap (λ x. lineInto v st x held) (sym (fs .1)))
+      (⊎-elim (λ k. ap (follows (st .last)) (l ∙ k) ∙ f) (λ k. ap (follows (st .last)) (l ∙ k) ∙ follows-none (st .last)) (keyword-or-none w (fs .0)))
 
   -- a field alone
   pub alone-refused : fieldsAt s (st .at) ≡ fieldAt s (st .at) ∷ [] → (a b c items wits : List ℕ) → LineRead s st a b c items wits a b c items wits r
   unfolding lineOf
-  alone-refused e = broken-refused (ap (λ x. lineOfFields x .keyword) e ∙ alone-broken (keywordOf (fieldAt s (st .at))))
+  alone-refused e =
+      refused
+      (λ v held. into-alone v st (fieldAt s (st .at)) held ∙ ap (λ x. lineInto v st x held) (sym e))
+      (ap (follows (st .last)) (ap (λ x. lineOfFields x .keyword) e ∙ alone-broken (keywordOf (fieldAt s (st .at)))) ∙ follows-none (st .last))
 
 -- A first field that ends at `end`, where a tab stands; its keyword may follow.
 pub record AtTab (s : List ℕ) (st : State) (end : ℕ) (w : Keyword) : Type 0 where
@@ -121,31 +140,25 @@ module _ (s : List ℕ) (st r : State) (end : ℕ) (w : Keyword) (at-tab : AtTab
         rw (e, here-kept .0)
         (advance-bounded w st (here .numbers) (nextLine s (end + 1)) (length s) (at-tab .bounded) (omega (arith, behind)) (next-within s (end + 1)) (omega (arith, behind, here-kept .1)))
 
-    own : (count : ℕ) (held now : List ℕ) → (r .last ≡ w → Appended count (bytesOf w (here ∷ [])) held now) → Appended count (bytesOf w (lineHere s st ∷ [])) held now
-    unfolding advance
-    own count held now h = rw line-is (h (ap (λ x. x .last) e ∙ advance-last (here .keyword) st (here .numbers) (nextLine s (end + 1)) ∙ here-kept .0))
+  -- A buffer: of another keyword and unchanged, or of this one and with the fields that were read.
+  abbrev Buffer : Keyword → List ℕ → List ℕ → Type 0
+  Buffer v held now = ((sameKeyword v w ≡ false) × (now ≡ held)) ⊎ ((v ≡ w) × (now ≡ fieldsInto w (countIn w st) (fieldsAt s (end + 1)) held))
 
-    other : (v : Keyword) → sameKeyword v w ≡ false → (count : ℕ) (b : List ℕ) → Appended count (bytesOf v (lineHere s st ∷ [])) b b
-    unfolding having lineBytes
-    other v n count b = rw (line-is, here-kept .0, n) (appended-none count b)
+  abbrev chosen : Bool → Keyword → List ℕ → List ℕ
+  chosen t v held = cond t (fieldsInto v (countIn v st) (fieldsAt s (end + 1)) held) held
 
-  -- A buffer: of another keyword and unchanged, or of this one and with the line's bytes.
-  abbrev Buffer : Keyword → ℕ → List ℕ → List ℕ → Type 0
-  Buffer v count held now = ((sameKeyword v w ≡ false) × (now ≡ held)) ⊎ ((v ≡ w) × (r .last ≡ w → Appended count (bytesOf w (here ∷ [])) held now))
+  into-here : (v : Keyword) (held : List ℕ) → into v s st held ≡ chosen (sameKeyword v w) v held
+  unfolding lineInto
+  into-here v held =
+      ap (λ x. lineInto v st x held) (tab-fields s (st .at) end before (at-tab .is-end) (at-tab .tab))
+      ∙ ap (λ k. chosen (follows (st .last) k && sameKeyword v k) v held) (sym (at-tab .word))
+      ∙ ap (λ t. chosen (t && sameKeyword v w) v held) (at-tab .may)
 
-  buffer : (v : Keyword) (count : ℕ) (held now : List ℕ) → Buffer v count held now → mayStand s st → Appended count (bytesOf v (lineHere s st ∷ [])) held now
-  buffer v count held now (inl h) m = rw (h .1) (other m v (h .0) count held)
-  buffer v count held now (inr h) m = rw (h .0) (own m count held now (h .1))
+  buffer : (v : Keyword) (held now : List ℕ) → Buffer v held now → now ≡ into v s st held
+  buffer v held now (inl h) = h .1 ∙ sym (into-here v held ∙ ap (λ t. chosen t v held) (h .0))
+  buffer v held now (inr h) = h .1 ∙ sym (ap (λ u. into u s st held) (h .0) ∙ into-here w held ∙ ap (λ t. chosen t w held) (eq-eqb (number w) (number w) refl))
 
-  pub line-read : (a b c items wits a′ b′ c′ items′ wits′ : List ℕ) → Buffer EntryA (3 * st .entries .a) a a′ → Buffer EntryB (3 * st .entries .b) b b′ → Buffer EntryC (3 * st .entries .c) c c′
-      → Buffer Item (st .pairs .items) items items′ → Buffer Wit (st .pairs .wits) wits wits′ → LineRead s st a b c items wits a′ b′ c′ items′ wits′ r
-  line-read a b c items wits a′ b′ c′ items′ wits′ in-a in-b in-c in-items in-wits = (
-    state,
-    (
-      now-bounded,
-      (
-        buffer EntryA (3 * st .entries .a) a a′ in-a,
-        (buffer EntryB (3 * st .entries .b) b b′ in-b, (buffer EntryC (3 * st .entries .c) c c′ in-c, (buffer Item (st .pairs .items) items items′ in-items, buffer Wit (st .pairs .wits) wits wits′ in-wits))),
-      ),
-    ),
-  )
+  pub line-read : (a b c items wits a′ b′ c′ items′ wits′ : List ℕ) → Buffer EntryA a a′ → Buffer EntryB b b′ → Buffer EntryC c c′ → Buffer Item items items′ → Buffer Wit wits wits′
+      → LineRead s st a b c items wits a′ b′ c′ items′ wits′ r
+  line-read a b c items wits a′ b′ c′ items′ wits′ in-a in-b in-c in-items in-wits =
+      (state, (now-bounded, (buffer EntryA a a′ in-a, (buffer EntryB b b′ in-b, (buffer EntryC c c′ in-c, (buffer Item items items′ in-items, buffer Wit wits wits′ in-wits))))))

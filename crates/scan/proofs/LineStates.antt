@@ -1,4 +1,4 @@
--- What a line adds to the state and to its buffer, by what was read of its fields.
+-- What a line adds to the state, by what was read of its fields.
 use mathlib.Core.Path.{_≡_, refl, sym, ap, _∙_}
 use mathlib.Core.Bool.{Bool, true, false, not, _&&_}
 use mathlib.Core.List.{List, [], _∷_, _++_, map, append-nil}
@@ -7,7 +7,7 @@ use native.Mathlib.Omega.{arith}
 use borrow.Author.Tests.{leb-true, eqb-true, eqb-false, le-leb, eq-eqb, ne-eqb}
 use lib.Dec.{eqb, leb}
 use lib.ListN.{length, drop, length-map, drop-of-length-le}
-use Rattle.numbers.specs.Numbers.{numbers, bytes}
+use Rattle.numbers.specs.Numbers.{numbers}
 use Rattle.numbers.proofs.Bounds.{Below}
 use Rattle.numbers.proofs.Bytes.{numbers-bytes}
 use Rattle.numbers.proofs.Tests.{and-left, and-right}
@@ -19,19 +19,13 @@ use Rattle.scan.specs.declared.state.Entries.{Entries}
 use Rattle.scan.specs.declared.state.State.{State}
 use Rattle.lines.specs.Text.{allPass, decimal, isDigit, needlessZero, isNumber, hexBytes}
 use Rattle.lines.specs.Lines.{Line, countFits, broken, numbersLine, front, last, itemLine, lineWith}
-use Rattle.lines.specs.Cursor.{fieldsAt, nextLine, numbersAt, exactlyAt, isItem, itemRowAt, numberBytes, appendedNumbers, appendedItem, Appended}
-use Rattle.lines.proofs.AppendLaws.{length-numberBytes, numbers-appended, item-appended}
+use Rattle.lines.specs.Cursor.{fieldsAt, nextLine, numbersAt, exactlyAt, isItem, itemRowAt, numberBytes, appendedNumbers}
+use Rattle.lines.proofs.AppendLaws.{Appended, length-numberBytes, numbers-appended}
 use Rattle.lines.proofs.FieldEnds.{first-field}
-use Rattle.scan.specs.Sheet.{number, having, lineBytes, bytesOf}
 use Rattle.lines.proofs.ReadLaws.{cond-read, cond-bad, row-read, row-bad}
 use Rattle.scan.specs.Scan.{stopped, withEntries, withPairs, afterEntry, advanceBy, advance}
 
--- ---- the state and the buffer behind a line
-
--- The bytes of one line with the keyword.
-bytes-of-line : (w : Keyword) (xs root : List ℕ) → bytesOf w (record { keyword = w; numbers = xs; root = root } ∷ []) ≡ bytes xs ++ root
-unfolding having lineBytes
-bytes-of-line w xs root = rw (eq-eqb (number w) (number w) refl) (append-nil (bytes xs ++ root))
+-- ---- the state behind a line
 
 module _ (st : State) (l : Line) (next : ℕ) where
   pub state-broken : l ≡ broken → advance st l next ≡ stopped st
@@ -41,18 +35,6 @@ module _ (st : State) (l : Line) (next : ℕ) where
   state-behind : {w : Keyword} {xs root : List ℕ} → l ≡ record { keyword = w; numbers = xs; root = root } → advance st l next ≡ advanceBy w st xs next
   unfolding advance
   state-behind h = ap (λ (k : Line). advance st k next) h
-
--- What a line's function promises of its result r and of its buffer, which had `count` numbers.
-abbrev pub Promised : Keyword → State → Line → ℕ → ℕ → List ℕ → List ℕ → State → Type 0
-Promised w st l next count held now r = (r ≡ advance st l next) × (r .last ≡ w → Appended count (bytesOf w (l ∷ [])) held now)
-
-module _ (w : Keyword) (st : State) (l : Line) (next count : ℕ) (held now : List ℕ) where
-  -- Behind a line that breaks the rules no keyword stands, so nothing is promised of the buffer.
-  pub refused : (r : State) → number w < 7 → r ≡ stopped st → l ≡ broken → Promised w st l next count held now r
-  refused r h e b = (e ∙ sym (state-broken st l next b), λ k. let z : 7 ≡ number w = sym (ap (λ (t : State). number (t .last)) e) ∙ ap number k in absurd (omega arith))
-
-  accepted : (r : State) (xs root : List ℕ) → l ≡ record { keyword = w; numbers = xs; root = root } → r ≡ advanceBy w st xs next → Appended count (bytes xs ++ root) held now → Promised w st l next count held now r
-  accepted r xs root h e a = (e ∙ sym (state-behind st l next h), λ k. rw (h, bytes-of-line w xs root) a)
 
 -- ---- fields
 
@@ -102,32 +84,28 @@ module _ (s : List ℕ) (at count size : ℕ) {r : Row} (e : r ≡ exactlyAt s a
 
 -- w is the keyword of an entry, and behind its line the entries are `entries`.
 pub record EntryKeyword (w : Keyword) (st : State) (entries : Entries) : Type 0 where
-  pub some : number w < 7
   pub three : (count : ℕ) → countFits w count ≡ eqb count 3
   pub line : (fs : List (List ℕ)) → lineWith w fs ≡ numbersLine w fs
   pub behind : (xs : List ℕ) (next : ℕ) → advanceBy w st xs next ≡ withEntries w entries st next
 
 module _ (st : State) where
   pub is-a : EntryKeyword EntryA st (record { a = st .entries .a + 1; b = st .entries .b; c = st .entries .c })
-  is-a = record { some = omega arith; three = λ n. refl; line = λ fs. refl; behind = λ xs next. refl }
+  is-a = record { three = λ n. refl; line = λ fs. refl; behind = λ xs next. refl }
 
   pub is-b : EntryKeyword EntryB st (record { a = st .entries .a; b = st .entries .b + 1; c = st .entries .c })
-  is-b = record { some = omega arith; three = λ n. refl; line = λ fs. refl; behind = λ xs next. refl }
+  is-b = record { three = λ n. refl; line = λ fs. refl; behind = λ xs next. refl }
 
   pub is-c : EntryKeyword EntryC st (record { a = st .entries .a; b = st .entries .b; c = st .entries .c + 1 })
-  is-c = record { some = omega arith; three = λ n. refl; line = λ fs. refl; behind = λ xs next. refl }
+  is-c = record { three = λ n. refl; line = λ fs. refl; behind = λ xs next. refl }
 
-module _ (w : Keyword) (st : State) (entries : Entries) (is : EntryKeyword w st entries) (s : List ℕ) (at count : ℕ) (held now : List ℕ)
-    (a : now ≡ appendedNumbers (3 * count) (fieldsAt s at) held) (q : State) where
-  pub entry-read : (r : Row) → r ≡ exactlyAt s at (3 * count) 3 → q ≡ afterEntry w entries st r → Promised w st (lineWith w (fieldsAt s at)) (nextLine s at) (3 * count) held now q
+module _ (w : Keyword) (st : State) (entries : Entries) (is : EntryKeyword w st entries) (s : List ℕ) (at count : ℕ) (q : State) where
+  pub entry-read : (r : Row) → r ≡ exactlyAt s at (3 * count) 3 → q ≡ afterEntry w entries st r → q ≡ advance st (lineWith w (fieldsAt s at)) (nextLine s at)
   entry-read (row.Read total next) e z =
       let xs = map decimal (fieldsAt s at) in
       let f = exactly-read s at (3 * count) 3 e refl in
-      accepted w st _ _ (3 * count) held now q xs []
-      (is .line (fieldsAt s at) ∙ exactly-line s at (3 * count) 3 e w (is .three) refl)
-      (z ∙ (sym (is .behind xs next) ∙ ap (advanceBy w st xs) (f .2)))
-      (rw append-nil (numbers-appended (3 * count) (fieldsAt s at) held a (f .0)))
-  entry-read row.Bad e z = refused w st _ _ (3 * count) held now q (is .some) z (is .line (fieldsAt s at) ∙ exactly-bad s at (3 * count) 3 e w (is .three) refl)
+      z ∙ sym (is .behind xs next) ∙ ap (advanceBy w st xs) (f .2)
+      ∙ sym (state-behind st _ (nextLine s at) (is .line (fieldsAt s at) ∙ exactly-line s at (3 * count) 3 e w (is .three) refl))
+  entry-read row.Bad e z = z ∙ sym (state-broken st _ _ (is .line (fieldsAt s at) ∙ exactly-bad s at (3 * count) 3 e w (is .three) refl))
 
 -- ---- `size` and `end`: the numbers come back out of a buffer that they fill
 
@@ -154,18 +132,18 @@ same-count a b x y f g = go (eqb x y) refl
     go true h = eq-eqb a b (g (eqb-true x y h)) ∙ sym h
     go false h = ne-eqb a b (λ q. eqb-false x y h (f q)) ∙ sym h
 
-module _ (st : State) (s : List ℕ) (at : ℕ) {r : Row} {total next : ℕ} (t : r ≡ row.Read total next) (held now : List ℕ) where
+module _ (st : State) (s : List ℕ) (at : ℕ) {r : Row} {total next : ℕ} (t : r ≡ row.Read total next) where
   pub witness-read : r ≡ numbersAt s at (st .pairs .wits)
-      → now ≡ appendedNumbers (st .pairs .wits) (fieldsAt s at) held
-      → Promised Wit st (numbersLine Wit (fieldsAt s at)) (nextLine s at) (st .pairs .wits) held now
-      (withPairs Wit (record { items = st .pairs .items; wits = total; count = st .pairs .count }) (st .fit && eqb total (st .pairs .wits + st .sizes .k)) st next)
-  witness-read e a =
+      → withPairs Wit (record { items = st .pairs .items; wits = total; count = st .pairs .count }) (st .fit && eqb total (st .pairs .wits + st .sizes .k)) st next
+      ≡ advance st (numbersLine Wit (fieldsAt s at)) (nextLine s at)
+  witness-read e =
       let xs = map decimal (fieldsAt s at) in
       let n = length xs in
       let f = row-read s at (st .pairs .wits) e t in
       let h : total ≡ st .pairs .wits + n = omega (arith, f .1, length-map (fieldsAt s at) decimal) in
       let same = same-count (st .pairs .wits + n) (st .pairs .wits + st .sizes .k) n (st .sizes .k) (λ q. omega arith) (λ q. omega arith) in
-      accepted Wit st _ _ (st .pairs .wits) held now _ xs [] (rw (f .0, le-leb 1 (length (fieldsAt s at)) (some-fields s at))) (rw (f .2, h, same)) (rw append-nil (numbers-appended (st .pairs .wits) (fieldsAt s at) held a (f .0)))
+      let line : numbersLine Wit (fieldsAt s at) ≡ record { keyword = Wit; numbers = xs; root = [] } = rw (f .0, le-leb 1 (length (fieldsAt s at)) (some-fields s at)) in
+      rw (f .2, h, same) (sym (state-behind st _ (nextLine s at) line))
 
   row-of-item : r ≡ itemRowAt s at (st .pairs .items) → (isItem (fieldsAt s at) ≡ true) × (total ≡ st .pairs .items + length (front (fieldsAt s at)) + 8) × (next ≡ nextLine s at)
   unfolding itemRowAt
@@ -173,17 +151,17 @@ module _ (st : State) (s : List ℕ) (at : ℕ) {r : Row} {total next : ℕ} (t 
 
   -- A root takes the place of eight numbers.
   pub item-read : r ≡ itemRowAt s at (st .pairs .items)
-      → now ≡ appendedItem (st .pairs .items) (fieldsAt s at) held
-      → Promised Item st (itemLine (fieldsAt s at)) (nextLine s at) (st .pairs .items) held now
-      (withPairs Item (record { items = total; wits = st .pairs .wits; count = st .pairs .count + 1 }) (st .fit && eqb total (st .pairs .items + (1 + st .sizes .m + st .sizes .n) + 8)) st next)
-  item-read e a =
+      → withPairs Item (record { items = total; wits = st .pairs .wits; count = st .pairs .count + 1 }) (st .fit && eqb total (st .pairs .items + (1 + st .sizes .m + st .sizes .n) + 8)) st next
+      ≡ advance st (itemLine (fieldsAt s at)) (nextLine s at)
+  item-read e =
       let xs = map decimal (front (fieldsAt s at)) in
       let n = length xs in
       let k = 1 + st .sizes .m + st .sizes .n in
       let f = row-of-item e in
       let h : total ≡ st .pairs .items + n + 8 = omega (arith, f .1, length-map (front (fieldsAt s at)) decimal) in
       let same = same-count (st .pairs .items + n + 8) (st .pairs .items + k + 8) n k (λ q. omega arith) (λ q. omega arith) in
-      accepted Item st _ _ (st .pairs .items) held now _ xs (hexBytes (last (fieldsAt s at))) (rw (f .0)) (rw (f .2, h, same)) (item-appended (st .pairs .items) (fieldsAt s at) held a (f .0))
+      let line : itemLine (fieldsAt s at) ≡ record { keyword = Item; numbers = xs; root = hexBytes (last (fieldsAt s at)) } = rw (f .0) in
+      rw (f .2, h, same) (sym (state-behind st _ (nextLine s at) line))
 
 pub witness-bad : (s : List ℕ) (at count : ℕ) {r : Row} → r ≡ numbersAt s at count → r ≡ row.Bad → numbersLine Wit (fieldsAt s at) ≡ broken
 witness-bad s at count e b = rw (row-bad s at count e b)

@@ -1,6 +1,6 @@
 -- Lines read in order so far: what the state behind them is, and what one line more makes of it.
 use mathlib.Core.Path.{_≡_, refl, sym, ap, _∙_}
-use mathlib.Core.Bool.{Bool, true, false, cond, _&&_, false≢true}
+use mathlib.Core.Bool.{Bool, true, false, cond, not, _&&_, false≢true}
 use mathlib.Core.List.{List, [], _∷_, _++_, append-assoc}
 use Prim.Native.Nat.{ℕ, _+_, _*_}
 use native.Mathlib.Omega.{arith}
@@ -14,8 +14,9 @@ use Rattle.scan.specs.declared.state.State.{State}
 use Rattle.lines.specs.Text.{allPass}
 use Rattle.lines.specs.Lines.{Line}
 use Rattle.scan.specs.Sheet.{sameKeyword, follows, orderedAfter, having, m, n, k, allHave}
-use Rattle.scan.specs.Scan.{lastKeyword, numberCount, stateFrom, stateAfter, stopped, advanceBy, advance, step}
-use Rattle.scan.proofs.SheetLaws.{allPass-append, having-more, numberCount-append, Sound}
+use Rattle.scan.specs.Scan.{stopped, advanceBy, advance, step}
+use Rattle.scan.proofs.StateAfter.{lastKeyword, numberCount, stateFrom, stateAfter}
+use Rattle.scan.proofs.SheetLaws.{same-keyword, allPass-append, having-more, numberCount-append, Sound}
 
 -- ---- which keyword may follow
 
@@ -81,6 +82,36 @@ step-off st l next f = rw f
 pub step-last : (st : State) (l : Line) (next : ℕ) → follows (st .last) (l .keyword) ≡ true → step st l next .last ≡ l .keyword
 unfolding advance
 step-last st l next f = ap (λ x. x .last) (step-on st l next f) ∙ advance-last (l .keyword) st (l .numbers) next
+
+-- Behind a step the state is at the next line exactly if the line may stand there.
+advance-at : (u v : Keyword) → follows u v ≡ true → (st : State) (xs : List ℕ) (next : ℕ) → advanceBy v st xs next .at ≡ next
+advance-at u Size f st xs next = refl
+advance-at u EntryA f st xs next = refl
+advance-at u EntryB f st xs next = refl
+advance-at u EntryC f st xs next = refl
+advance-at u Item f st xs next = refl
+advance-at u Wit f st xs next = refl
+advance-at u End f st xs next = refl
+advance-at u None f st xs next = absurd (false≢true (sym (follows-none u) ∙ f))
+
+pub step-at : (st : State) (l : Line) (next : ℕ) → follows (st .last) (l .keyword) ≡ true → step st l next .at ≡ next
+unfolding advance
+step-at st l next f = ap (λ x. x .at) (step-on st l next f) ∙ advance-at (st .last) (l .keyword) f st (l .numbers) next
+
+-- ... and then it has a keyword.
+pub step-some : (st : State) (l : Line) (next : ℕ) → sameKeyword (step st l next .last) None ≡ not (follows (st .last) (l .keyword))
+step-some st l next = go (follows (st .last) (l .keyword)) refl
+  where
+    some : (u v : Keyword) → follows u v ≡ true → sameKeyword v None ≡ false
+    some u v f = go′ (sameKeyword v None) refl
+      where
+        go′ : (t : Bool) → sameKeyword v None ≡ t → t ≡ false
+        go′ true e = absurd (false≢true (sym (follows-none u) ∙ ap (follows u) (sym (same-keyword v None e)) ∙ f))
+        go′ false e = refl
+
+    go : (t : Bool) → follows (st .last) (l .keyword) ≡ t → sameKeyword (step st l next .last) None ≡ not t
+    go true f = ap (λ v. sameKeyword v None) (step-last st l next f) ∙ some (st .last) (l .keyword) f
+    go false f = ap (λ x. sameKeyword (x .last) None) (step-off st l next f)
 
 -- ---- lines in order so far
 

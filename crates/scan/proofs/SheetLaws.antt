@@ -16,9 +16,9 @@ use Rattle.lines.specs.declared.keyword.Keyword.the-variants.{Size, EntryA, Ent
 use Rattle.lines.specs.Text.{allPass, decimal, isNumber, isRoot, hexBytes, fields}
 use Rattle.lines.specs.Lines.{Line, broken, keywordOf, countFits, front, last, numbersLine, itemLine, lineWith, lineOfFields, lineOf}
 use Rattle.scan.specs.Sheet.{number, sameKeyword, having, countOf, lineBytes, bytesOf}
-use Rattle.scan.specs.Scan.{numberCount}
 use Rattle.lines.proofs.LineLengths.{root-length}
 use Rattle.lines.proofs.AppendLaws.{length-hexBytes}
+use Rattle.scan.proofs.StateAfter.{numberCount}
 
 -- ---- keywords
 

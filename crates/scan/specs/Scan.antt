@@ -1,6 +1,6 @@
--- What the reader keeps while it goes through the lines of a sheet, and what it promises of them.
+-- A pass over the lines of a sheet: the state behind each line, what the line puts into its buffer, and where the pass ends.
 use mathlib.Core.Path.{_≡_}
-use mathlib.Core.Bool.{Bool, true, cond, _&&_}
+use mathlib.Core.Bool.{Bool, true, cond, not, _&&_, _||_}
 use mathlib.Core.List.{List, [], _∷_}
 use Prim.Native.Nat.{ℕ, _+_, _*_, _≤_}
 use lib.ListN.{length, getD}
@@ -9,43 +9,25 @@ use Rattle.lines.specs.declared.keyword.Keyword.{Keyword}
 use Rattle.lines.specs.declared.keyword.Keyword.the-variants.{Size, EntryA, EntryB, EntryC, Item, Wit, End, None}
 use Rattle.lines.specs.declared.row.Row.{Row}
 use Rattle.lines.specs.declared.row.Row.the-variants as row
-use Rattle.lines.specs.Lines.{Line, lineOf}
-use Rattle.lines.specs.Cursor.{lineAt}
+use Rattle.lines.specs.Text.{fields, lines}
+use Rattle.lines.specs.Lines.{Line, keywordOf, lineOf}
+use Rattle.lines.specs.Cursor.{lineAt, nextLine, appendedNumbers, appendedItem}
 use Rattle.scan.specs.declared.state.Entries.{Entries}
 use Rattle.scan.specs.declared.state.Pairs.{Pairs}
 use Rattle.scan.specs.declared.state.State.{State}
-use Rattle.scan.specs.Sheet.{sameKeyword, follows, ordered, sheetLines, having, firstAt, bytesOf, allHave, filled}
+use Rattle.scan.specs.Sheet.{sameKeyword, follows}
 
--- The keyword of the last line; None where there is none.
-unfoldable pub lastKeyword : List Line → Keyword
-lastKeyword [] = None
-lastKeyword (l ∷ []) = l .keyword
-lastKeyword (l ∷ h ∷ ls) = lastKeyword (h ∷ ls)
-
--- How many numbers lines have.
-unfoldable pub numberCount : List Line → ℕ
-numberCount [] = 0
-numberCount (l ∷ ls) = length (l .numbers) + numberCount ls
-
--- The state by the last keyword and the lines with each keyword. A root counts as eight numbers.
-abbrev pub stateFrom : Keyword → List Line → List Line → List Line → List Line → List Line → List Line → List Line → ℕ → State
-stateFrom last sizes a b c items wits ends at = record {
-  at = at;
-  last = last;
-  sizes = record { m = firstAt 0 sizes; n = firstAt 1 sizes; k = firstAt 2 sizes };
-  entries = record { a = length a; b = length b; c = length c };
-  pairs = record {
-    items = numberCount items + 8 * length items;
-    wits = numberCount wits;
-    count = length items;
-  };
-  fit = allHave (1 + firstAt 0 sizes + firstAt 1 sizes) items && allHave (firstAt 2 sizes) wits;
-  end = firstAt 0 ends;
+-- The state before the first line.
+abbrev pub start : State
+start = record {
+  at = 0;
+  last = None;
+  sizes = record { m = 0; n = 0; k = 0 };
+  entries = record { a = 0; b = 0; c = 0 };
+  pairs = record { items = 0; wits = 0; count = 0 };
+  fit = true;
+  end = 0;
 }
-
--- The state at index `at`, behind the lines ls.
-abbrev pub stateAfter : List Line → ℕ → State
-stateAfter ls at = stateFrom (lastKeyword ls) (having Size ls) (having EntryA ls) (having EntryB ls) (having EntryC ls) (having Item ls) (having Wit ls) (having End ls) at
 
 -- The state behind a line with the keyword w, with other entries or pairs.
 abbrev pub withEntries : Keyword → Entries → State → ℕ → State
@@ -99,30 +81,52 @@ Bounded size st =
     (st .at ≤ size) × (3 * st .entries .a ≤ st .at) × (3 * st .entries .b ≤ st .at) × (3 * st .entries .c ≤ st .at)
     × (st .pairs .items ≤ st .at) × (st .pairs .wits ≤ st .at) × (st .pairs .count ≤ st .at)
 
--- A buffer was filled from the front with xs, if xs fits.
-abbrev pub Filled : List ℕ → List ℕ → List ℕ → Type 0
-Filled xs held now = (length xs ≤ length held → now ≡ filled xs held)
+-- ---- buffers
 
--- A state has the sizes and the entries of another.
-abbrev pub SameEntries : State → State → Type 0
-SameEntries r st = (r .sizes ≡ st .sizes) × (r .entries ≡ st .entries)
+-- How many numbers the buffer for the lines with a keyword has; lines with another have no buffer.
+abbrev pub countIn : Keyword → State → ℕ
+countIn EntryA st = 3 * st .entries .a
+countIn EntryB st = 3 * st .entries .b
+countIn EntryC st = 3 * st .entries .c
+countIn Item st = st .pairs .items
+countIn Wit st = st .pairs .wits
+countIn Size st = 0
+countIn End st = 0
+countIn None st = 0
 
--- What is promised of reading all lines of s: the last keyword tells whether the sheet is in order, and if it is, the state is the one behind the
--- last line, and each buffer is filled.
-abbrev pub LinesRead : List ℕ → State → List ℕ → List ℕ → List ℕ → List ℕ → List ℕ → List ℕ → List ℕ → List ℕ → List ℕ → List ℕ → Type 0
-LinesRead s st a₀ b₀ c₀ items₀ wits₀ a b c items wits =
-    (sameKeyword (st .last) End ≡ ordered (sheetLines s))
-    × ((ordered (sheetLines s) ≡ true → st ≡ stateAfter (sheetLines s) (length s))
-    × ((ordered (sheetLines s) ≡ true → Filled (bytesOf EntryA (sheetLines s)) a₀ a)
-    × ((ordered (sheetLines s) ≡ true → Filled (bytesOf EntryB (sheetLines s)) b₀ b)
-    × ((ordered (sheetLines s) ≡ true → Filled (bytesOf EntryC (sheetLines s)) c₀ c)
-    × ((ordered (sheetLines s) ≡ true → Filled (bytesOf Item (sheetLines s)) items₀ items)
-    × (ordered (sheetLines s) ≡ true → Filled (bytesOf Wit (sheetLines s)) wits₀ wits))))))
+-- The buffer for the lines with the keyword w, which has `count` numbers, behind the fields of such a line, appended as they are read.
+abbrev pub fieldsInto : Keyword → ℕ → List (List ℕ) → List ℕ → List ℕ
+fieldsInto w count fs held = cond (sameKeyword w Item) (appendedItem count fs held) (appendedNumbers count fs held)
 
--- What is promised of reading its entries.
-abbrev pub EntriesRead : List ℕ → State → List ℕ → List ℕ → List ℕ → List ℕ → List ℕ → List ℕ → Type 0
-EntriesRead s st a₀ b₀ c₀ a b c =
-    (ordered (sheetLines s) ≡ true → SameEntries st (stateAfter (sheetLines s) (length s)))
-    × ((ordered (sheetLines s) ≡ true → Filled (bytesOf EntryA (sheetLines s)) a₀ a)
-    × ((ordered (sheetLines s) ≡ true → Filled (bytesOf EntryB (sheetLines s)) b₀ b)
-    × (ordered (sheetLines s) ≡ true → Filled (bytesOf EntryC (sheetLines s)) c₀ c)))
+-- The same behind any line: it changes where the line's first field is w, and w may stand there. A line that breaks the rules further on has appended the
+-- numbers before.
+unfoldable pub lineInto : Keyword → State → List (List ℕ) → List ℕ → List ℕ
+lineInto w st [] held = held
+lineInto w st (f ∷ fs) held = cond (follows (st .last) (keywordOf f) && sameKeyword w (keywordOf f)) (fieldsInto w (countIn w st) fs held) held
+
+-- ---- the pass
+
+-- Whether the pass ends behind a line: the line broke the rules, or it is an item and not the whole sheet is asked for.
+abbrev pub over : Bool → State → Bool
+over whole st = sameKeyword (st .last) None || (not whole && sameKeyword (st .last) Item)
+
+-- The state that the pass over s ends with, and one of its buffers, from the state st on, where `texts` are the lines from there.
+unfoldable pub pass : Bool → List ℕ → List (List ℕ) → State → State
+pass whole s [] st = st
+pass whole s (t ∷ texts) st =
+    let next = step st (lineOf t) (nextLine s (st .at)) in
+    cond (over whole next) next (pass whole s texts next)
+
+unfoldable pub passInto : Keyword → Bool → List ℕ → List (List ℕ) → State → List ℕ → List ℕ
+passInto w whole s [] st held = held
+passInto w whole s (t ∷ texts) st held =
+    let next = step st (lineOf t) (nextLine s (st .at)) in
+    let now = lineInto w st (fields t) held in
+    cond (over whole next) now (passInto w whole s texts next now)
+
+-- The same from the first line on: what a scan of s ends with, and the buffer for the lines with the keyword w, which had the bytes `held`.
+unfoldable pub scanned : Bool → List ℕ → State
+scanned whole s = pass whole s (lines s) start
+
+unfoldable pub scannedInto : Keyword → Bool → List ℕ → List ℕ → List ℕ
+scannedInto w whole s held = passInto w whole s (lines s) start held

@@ -1,13 +1,11 @@
 // Check 1 over the whole sheet, in one pass: line by line, each number appended to its buffer as it is read.
 ghost use mathlib.Core.Path.{_≡_};
-ghost use mathlib.Core.Bool.{true};
-ghost use mathlib.Core.List.{[], _∷_};
-ghost use Prim.Native.Nat.{_*_, _≤_, _<_};
+ghost use mathlib.Core.Bool.{true, false};
+ghost use Prim.Native.Nat.{_≤_, _<_};
 ghost use lib.ListN.{length};
 ghost use Rattle.lines.specs.declared.keyword.Keyword.the-variants.{EntryA, EntryB, EntryC, Item, Wit};
-ghost use Rattle.lines.specs.Cursor.{nextLine, Appended};
-ghost use Rattle.scan.specs.Sheet.{bytesOf};
-ghost use Rattle.scan.specs.Scan.{step, lineHere, mayStand, Bounded, LinesRead, EntriesRead};
+ghost use Rattle.lines.specs.Cursor.{fieldsAt, nextLine};
+ghost use Rattle.scan.specs.Scan.{step, lineHere, mayStand, Bounded, lineInto, scanned, scannedInto};
 
 mod line;
 pub mod order;
@@ -31,11 +29,11 @@ fn read_line(
     requires { ⌜ (st .at < length (now s)) × (length (now s) ≤ 60000) × Bounded (length (now s)) st ⌝ }
     ensures state { λ r. ⌜ r ≡ step st (lineHere (now (s .entry)) st) (nextLine (now (s .entry)) (st .at)) ⌝ }
     ensures bounded { λ r. ⌜ (mayStand (now (s .entry)) st → Bounded (length (now (s .entry))) r) ⌝ }
-    ensures a { λ _. ⌜ (mayStand (now (s .entry)) st → Appended (3 * st .entries .a) (bytesOf EntryA (lineHere (now (s .entry)) st ∷ [])) (now (a .entry)) (now (a .exit))) ⌝ }
-    ensures b { λ _. ⌜ (mayStand (now (s .entry)) st → Appended (3 * st .entries .b) (bytesOf EntryB (lineHere (now (s .entry)) st ∷ [])) (now (b .entry)) (now (b .exit))) ⌝ }
-    ensures c { λ _. ⌜ (mayStand (now (s .entry)) st → Appended (3 * st .entries .c) (bytesOf EntryC (lineHere (now (s .entry)) st ∷ [])) (now (c .entry)) (now (c .exit))) ⌝ }
-    ensures items { λ _. ⌜ (mayStand (now (s .entry)) st → Appended (st .pairs .items) (bytesOf Item (lineHere (now (s .entry)) st ∷ [])) (now (items .entry)) (now (items .exit))) ⌝ }
-    ensures wits { λ _. ⌜ (mayStand (now (s .entry)) st → Appended (st .pairs .wits) (bytesOf Wit (lineHere (now (s .entry)) st ∷ [])) (now (wits .entry)) (now (wits .exit))) ⌝ }
+    ensures a { λ _. ⌜ now (a .exit) ≡ lineInto EntryA st (fieldsAt (now (s .entry)) (st .at)) (now (a .entry)) ⌝ }
+    ensures b { λ _. ⌜ now (b .exit) ≡ lineInto EntryB st (fieldsAt (now (s .entry)) (st .at)) (now (b .entry)) ⌝ }
+    ensures c { λ _. ⌜ now (c .exit) ≡ lineInto EntryC st (fieldsAt (now (s .entry)) (st .at)) (now (c .entry)) ⌝ }
+    ensures items { λ _. ⌜ now (items .exit) ≡ lineInto Item st (fieldsAt (now (s .entry)) (st .at)) (now (items .entry)) ⌝ }
+    ensures wits { λ _. ⌜ now (wits .exit) ≡ lineInto Wit st (fieldsAt (now (s .entry)) (st .at)) (now (wits .entry)) ⌝ }
 {
     let start = st.at;
     let last = st.last;
@@ -88,8 +86,12 @@ fn scan_lines(
     whole: bool,
 ) -> State
     requires { ⌜ length (now s) ≤ 60000 ⌝ }
-    ensures lines { λ r. ⌜ (whole ≡ true → LinesRead (now (s .entry)) r (now (a .entry)) (now (b .entry)) (now (c .entry)) (now (items .entry)) (now (wits .entry)) (now (a .exit)) (now (b .exit)) (now (c .exit)) (now (items .exit)) (now (wits .exit))) ⌝ }
-    ensures entries { λ r. ⌜ EntriesRead (now (s .entry)) r (now (a .entry)) (now (b .entry)) (now (c .entry)) (now (a .exit)) (now (b .exit)) (now (c .exit)) ⌝ }
+    ensures state { λ r. ⌜ r ≡ scanned whole (now (s .entry)) ⌝ }
+    ensures a { λ _. ⌜ now (a .exit) ≡ scannedInto EntryA whole (now (s .entry)) (now (a .entry)) ⌝ }
+    ensures b { λ _. ⌜ now (b .exit) ≡ scannedInto EntryB whole (now (s .entry)) (now (b .entry)) ⌝ }
+    ensures c { λ _. ⌜ now (c .exit) ≡ scannedInto EntryC whole (now (s .entry)) (now (c .entry)) ⌝ }
+    ensures items { λ _. ⌜ now (items .exit) ≡ scannedInto Item whole (now (s .entry)) (now (items .entry)) ⌝ }
+    ensures wits { λ _. ⌜ now (wits .exit) ≡ scannedInto Wit whole (now (s .entry)) (now (wits .entry)) ⌝ }
 {
     let mut st = state::start();
     while st.at < s.len() {
@@ -116,15 +118,23 @@ pub fn scan(
     wits: &mut [u8],
 ) -> State
     requires { ⌜ length (now s) ≤ 60000 ⌝ }
-    ensures { λ r. ⌜ LinesRead (now (s .entry)) r (now (a .entry)) (now (b .entry)) (now (c .entry)) (now (items .entry)) (now (wits .entry)) (now (a .exit)) (now (b .exit)) (now (c .exit)) (now (items .exit)) (now (wits .exit)) ⌝ }
+    ensures state { λ r. ⌜ r ≡ scanned true (now (s .entry)) ⌝ }
+    ensures a { λ _. ⌜ now (a .exit) ≡ scannedInto EntryA true (now (s .entry)) (now (a .entry)) ⌝ }
+    ensures b { λ _. ⌜ now (b .exit) ≡ scannedInto EntryB true (now (s .entry)) (now (b .entry)) ⌝ }
+    ensures c { λ _. ⌜ now (c .exit) ≡ scannedInto EntryC true (now (s .entry)) (now (c .entry)) ⌝ }
+    ensures items { λ _. ⌜ now (items .exit) ≡ scannedInto Item true (now (s .entry)) (now (items .entry)) ⌝ }
+    ensures wits { λ _. ⌜ now (wits .exit) ≡ scannedInto Wit true (now (s .entry)) (now (wits .entry)) ⌝ }
 {
     scan_lines(s, a, b, c, items, wits, true)
 }
 
-// Reads the sizes and the entries alone.
+// Reads up to the first item, for the sizes and the entries.
 pub fn scan_entries(s: &[u8], a: &mut [u8], b: &mut [u8], c: &mut [u8]) -> State
     requires { ⌜ length (now s) ≤ 60000 ⌝ }
-    ensures { λ r. ⌜ EntriesRead (now (s .entry)) r (now (a .entry)) (now (b .entry)) (now (c .entry)) (now (a .exit)) (now (b .exit)) (now (c .exit)) ⌝ }
+    ensures state { λ r. ⌜ r ≡ scanned false (now (s .entry)) ⌝ }
+    ensures a { λ _. ⌜ now (a .exit) ≡ scannedInto EntryA false (now (s .entry)) (now (a .entry)) ⌝ }
+    ensures b { λ _. ⌜ now (b .exit) ≡ scannedInto EntryB false (now (s .entry)) (now (b .entry)) ⌝ }
+    ensures c { λ _. ⌜ now (c .exit) ≡ scannedInto EntryC false (now (s .entry)) (now (c .entry)) ⌝ }
 {
     let mut items: [u8; 0] = [];
     let mut wits: [u8; 0] = [];

@@ -1,12 +1,10 @@
 // One line of a sheet, by its keyword: what it adds to the state and to its buffer.
 ghost use mathlib.Core.Path.{_≡_};
-ghost use mathlib.Core.List.{[], _∷_};
 ghost use Prim.Native.Nat.{_≤_};
 ghost use lib.ListN.{length};
 ghost use Rattle.lines.specs.declared.keyword.Keyword.the-variants.{Size, Item, Wit, End};
 ghost use Rattle.lines.specs.Lines.{lineWith};
-ghost use Rattle.lines.specs.Cursor.{fieldsAt, nextLine, Appended};
-ghost use Rattle.scan.specs.Sheet.{bytesOf};
+ghost use Rattle.lines.specs.Cursor.{fieldsAt, nextLine, appendedNumbers, appendedItem};
 ghost use Rattle.scan.specs.Scan.{advance, afterEntry};
 use crate::state::Entries;
 use crate::state::Pairs;
@@ -68,7 +66,7 @@ pub fn entry(st: State, word: Keyword, entries: Entries, read: Row) -> State
 pub fn item(st: State, s: &[u8], at: usize, items: &mut [u8]) -> State
     requires { ⌜ (at ≤ length (now s)) × (length (now s) ≤ 60000) × (st .pairs .items ≤ at) × (st .pairs .count ≤ at) ⌝ }
     ensures state { λ r. ⌜ r ≡ advance st (lineWith Item (fieldsAt (now (s .entry)) at)) (nextLine (now (s .entry)) at) ⌝ }
-    ensures items { λ r. ⌜ (r .last ≡ Item → Appended (st .pairs .items) (bytesOf Item (lineWith Item (fieldsAt (now (s .entry)) at) ∷ [])) (now (items .entry)) (now (items .exit))) ⌝ }
+    ensures items { λ _. ⌜ now (items .exit) ≡ appendedItem (st .pairs .items) (fieldsAt (now (s .entry)) at) (now (items .entry)) ⌝ }
 {
     let first = st.pairs.items;
     let read = row::read_item(s, at, items, first);
@@ -100,7 +98,7 @@ pub fn item(st: State, s: &[u8], at: usize, items: &mut [u8]) -> State
 pub fn witness(st: State, s: &[u8], at: usize, wits: &mut [u8]) -> State
     requires { ⌜ (at ≤ length (now s)) × (length (now s) ≤ 60000) × (st .pairs .wits ≤ at) ⌝ }
     ensures state { λ r. ⌜ r ≡ advance st (lineWith Wit (fieldsAt (now (s .entry)) at)) (nextLine (now (s .entry)) at) ⌝ }
-    ensures wits { λ r. ⌜ (r .last ≡ Wit → Appended (st .pairs .wits) (bytesOf Wit (lineWith Wit (fieldsAt (now (s .entry)) at) ∷ [])) (now (wits .entry)) (now (wits .exit))) ⌝ }
+    ensures wits { λ _. ⌜ now (wits .exit) ≡ appendedNumbers (st .pairs .wits) (fieldsAt (now (s .entry)) at) (now (wits .entry)) ⌝ }
 {
     let first = st.pairs.wits;
     let read = row::read_numbers(s, at, wits, first);

@@ -1,7 +1,6 @@
 // What the scan keeps between two lines.
 ghost use mathlib.Core.Path.{_≡_};
-ghost use mathlib.Core.List.{[]};
-ghost use Rattle.scan.specs.Scan.{stateAfter, stopped};
+ghost use Rattle.scan.specs.Scan.{start, stopped};
 use lines::keyword::Keyword;
 
 pub struct Sizes {
@@ -38,7 +37,7 @@ pub struct State {
 
 // The state before the first line.
 pub fn start() -> State
-    ensures { λ r. ⌜ r ≡ stateAfter [] 0 ⌝ }
+    ensures { λ r. ⌜ r ≡ start ⌝ }
 {
     let sizes = Sizes { m: 0, n: 0, k: 0 };
     let entries = Entries { a: 0, b: 0, c: 0 };

@@ -18,7 +18,8 @@ use Rattle.validation.specs.declared.reading.Reading.{Reading}
 use Rattle.scan.specs.Sheet.{sheetLines, ordered, bytesOf, pairsFit}
 use Rattle.validation.specs.SheetChecks.{countsFit, stateFits, buffersFit, sheetChecks, result}
 use Rattle.sheet.specs.Reading.{readSheet}
-use Rattle.scan.specs.Scan.{stateAfter, Filled}
+use Rattle.scan.proofs.StateAfter.{stateAfter}
+use Rattle.scan.proofs.Scanned.{Filled}
 use Rattle.validation.specs.Bounds.{CountBounds, EntryLengths, PairLengths}
 use Rattle.validation.proofs.ByteCounts.{a-size, b-size, c-size, items-size, wits-size}
 use Rattle.validation.proofs.SheetCheckLaws.{count-bounds, state-pairs-fit, buffer-lengths, items-most, wits-most, result-answer}

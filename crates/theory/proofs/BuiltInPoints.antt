@@ -42,6 +42,7 @@ module _ (k : ℕ) (counted : isWitnessCount k ≡ true) where
   held : numbers byHand ≡ map val (points k)
   held = numbers-bytes (map val (points k)) (below-word (points k))
 
+  -- They pass check 2 and check 12, and are the points that are used.
   pub by-hand-fit : pointsFit k byHand ≡ true
   by-hand-fit = or-right (hasLength byHand 0) (eq-eqb (length byHand) (4 * (4 * k)) long)
 

@@ -1,5 +1,5 @@
--- The second statement for passing folds, over any field, hash and code: from folds that open k different positions, at more than
--- (l - 1) × (m + 2) different challenges, either two different strings hashed for them have one digest, or they show one value of
+-- The second statement for passing folds, over any field, hash and code: from folds that open the same k different positions, at more
+-- than (l - 1) × (m + 2) different challenges, either two different strings hashed for them have one digest, or they show one value of
 -- each item at each position, and each item holds with the one witness whose codeword has these values.
 use mathlib.Core.Path.{_≡_, sym, _∙_, ap, ap₂, subst}
 use mathlib.Core.Logic.{_⊎_, inl, inr}

@@ -14,8 +14,9 @@ use Rattle.numbers.proofs.Bytes.{length-bytes, number4-bytes4, bytes4-injective
 use Rattle.field.specs.BabyBear.{p, F, val, ofℕ, 𝟘}
 use Rattle.field.proofs.Laws.{val-lt, val-inj, ofℕ-val, ofℕ-inj, below-p, ofNat-differ}
 use Rattle.hash.proofs.DigestLaws.{digest-length}
+use Rattle.hash.proofs.Tree.{node-message-blocks}
 use Rattle.tree.proofs.Entries.{entry-value}
-use Rattle.tree.proofs.HashedBlocks.{leaf-count, node-count}
+use Rattle.tree.proofs.HashedBlocks.{leaf-count}
 use Rattle.code.proofs.Points.{points-length}
 use Rattle.code.proofs.Different.{points-distinct}
 use Rattle.theory.specs.Buffers.{numberAt}
@@ -63,7 +64,7 @@ fp-laws = record {
     digest-length = digest-length;
     entry-value = λ i v w e. val-inj v w (bytes4-injective (val v) (val w) (four-bytes v) (four-bytes w) (entry-value i i _ _ e));
     leaf-blocks = λ i v. leaf-count i (bytes4 (val v)) (omega arith);
-    node-blocks = node-count;
+    node-blocks = node-message-blocks;
   };
   built-in-count = points-length;
   built-in-different = points-distinct;

@@ -1,5 +1,5 @@
--- The second statement of demand 3: of the folds that are accepted and open k different positions, with enough different challenges,
--- two different byte strings hashed for them have one digest, or each item holds.
+-- The second statement of demand 3: of the folds that are accepted and open the same k different positions, with enough different
+-- challenges, two different byte strings hashed for them have one digest, or each item holds.
 use mathlib.Core.Path.{_≡_, refl, subst}
 use mathlib.Core.Logic.{⊎-elim, inl, inr}
 use mathlib.Core.Bool.{Bool, true, _&&_}

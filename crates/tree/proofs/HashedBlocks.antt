@@ -4,11 +4,12 @@ use mathlib.Core.List.{List, [], _∷_, _++_}
 use Prim.Native.Nat.{ℕ, zero, suc, _+_, _-_, _*_, _/_, _%_, _≤_, _<_}
 use native.Mathlib.Nat.{zero-add}
 use native.Mathlib.Omega.{arith}
-use lib.ListN.{length, drop, length-append, length-drop}
+use lib.ListN.{length, drop, length-drop}
 use lib.Seq.{length-take-le}
 use Rattle.numbers.specs.Numbers.{bytes4}
 use Rattle.hash.specs.Sha256.{blockCount, digest}
-use Rattle.hash.proofs.DigestLaws.{digest-length, block-count}
+use Rattle.hash.proofs.DigestLaws.{digest-length}
+use Rattle.hash.proofs.Tree.{leaf-message-blocks, node-message-blocks}
 use Rattle.tree.specs.Merkle.{leafString, nodeString, joined, blocksOf, Long, climbStrings, openingStrings}
 use Rattle.tree.specs.Entry.{entry}
 use Rattle.tree.specs.Layout.{part, digests, openingSize, openedValue, openedPath, openedStrings}
@@ -63,12 +64,9 @@ module _ (digest : List ℕ → List ℕ) (blocks : List ℕ → ℕ) (digest-le
 
 pub leaf-count : (i : ℕ) (value : List ℕ) → length value ≤ 16 → blockCount (leafString (entry i value)) ≡ 1
 unfolding entry
-leaf-count i value h = omega (arith, block-count (leafString (entry i value)))
-
-pub node-count : (a b : List ℕ) → length a ≡ 32 → length b ≡ 32 → blockCount (nodeString a b) ≡ 2
-node-count a b l h = omega (arith, block-count (nodeString a b), length-append a b)
+leaf-count i value h = leaf-message-blocks (bytes4 i) value refl h
 
 pub opened-blocks : (s : List ℕ) (at depth i : ℕ) → at + openingSize depth ≤ length s → blocksOf blockCount (openedStrings digest s at depth i) ≡ 1 + 2 * depth
 opened-blocks s at depth i h =
-    opening-blocks digest blockCount digest-length node-count (entry i (bytes4 (openedValue s at))) i (openedPath s at depth) (leaf-count i (bytes4 (openedValue s at)) (omega arith)) (digests-long s (at + 4) depth (omega arith))
+    opening-blocks digest blockCount digest-length node-message-blocks (entry i (bytes4 (openedValue s at))) i (openedPath s at depth) (leaf-count i (bytes4 (openedValue s at)) (omega arith)) (digests-long s (at + 4) depth (omega arith))
     ∙ ap (λ (n : ℕ). 1 + 2 * n) (digests-length s (at + 4) depth)

@@ -14,7 +14,8 @@ use Rattle.scan.specs.declared.state.State.{State}
 use Rattle.scan.specs.Sheet.{sheetLines, ordered, m, n, k, pairs, bytesOf, pairsFit}
 use Rattle.validation.specs.SheetChecks.{stateFits, result}
 use Rattle.validation.specs.CheckParts.{circuitChecks}
-use Rattle.scan.specs.Scan.{stateAfter, Filled, SameEntries}
+use Rattle.scan.proofs.StateAfter.{stateAfter}
+use Rattle.scan.proofs.Scanned.{Filled, SameEntries}
 use Rattle.validation.specs.Bounds.{CountBounds, EntryLengths, PairLengths}
 use Rattle.validation.proofs.ByteCounts.{a-size, b-size, c-size, items-counted, wits-counted, items-size, wits-size}
 use Rattle.validation.proofs.SheetCheckLaws.{count-bounds, state-pairs-fit, items-most, wits-most}

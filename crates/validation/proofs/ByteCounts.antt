@@ -15,7 +15,7 @@ use Rattle.lines.specs.declared.keyword.Keyword.the-variants.{Size, EntryA, Ent
 use Rattle.lines.specs.Text.{allPass, lines}
 use Rattle.lines.specs.Lines.{Line}
 use Rattle.scan.specs.Sheet.{sameKeyword, follows, orderedAfter, ordered, sheetLines, having, countOf, m, n, k, pairs, bytesOf, allHave, pairsFit}
-use Rattle.scan.specs.Scan.{numberCount}
+use Rattle.scan.proofs.StateAfter.{numberCount}
 use Rattle.scan.proofs.SheetLaws.{same-keyword, Sound, all-sound, a-length, b-length, c-length, items-length, wits-length}
 
 -- ---- lines with as many numbers each

@@ -31,6 +31,9 @@ void put_root(const struct circuit *c, struct pair *pair) {
                                 pair->item + LOMVUZE_ITEM_ROOT(c->m, c->n), LOMVUZE_DIGEST_BYTES));
 }
 
+/* g^position, where g = 31^((p - 1) / 4k). */
+uint32_t point(uint32_t position) { return power(power(31, (LOMVUZE_P - 1) / 8), position); }
+
 struct pair written(const struct circuit *c, struct claim claim) {
   struct pair pair = {{0}, {0}};
   put(pair.item, 0, claim.e);

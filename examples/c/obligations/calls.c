@@ -39,7 +39,7 @@ bool verify(const struct fold *f, struct tally *tally) {
   size_t each = LOMVUZE_OPENINGS_BYTES(c->k, f->t), all = LOMVUZE_ALL_OPENINGS_BYTES(c->k, FOLDED, f->t);
   for (size_t q = 0; q < f->t; q++) put(positions, q, f->positions[q]);
   for (size_t i = 0; i < FOLDED + 1; i++)
-    need("open", lomvuze_open(c->k, f->t, LOMVUZE_BUILT_IN_POINTS, witnesses[i], LOMVUZE_WITNESS_BYTES(c->k),
+    need("open", lomvuze_open(c->k, f->t, f->points[i].bytes, f->points[i].length, witnesses[i], LOMVUZE_WITNESS_BYTES(c->k),
                               positions, LOMVUZE_POSITIONS_BYTES(f->t), opened + i * each, each));
   need("interleave", lomvuze_interleave(c->k, FOLDED, f->t, opened, all, openings, all));
   uint64_t answer = lomvuze_verify(c->m, c->n, c->k, FOLDED, f->t, f->challenge,
@@ -122,13 +122,17 @@ bool enough_different(const struct fold *f) {
   return different >= f->circuit->k;
 }
 
+void finish(const struct fold *f, struct tally *tally) {
+  bool verified = verify(f, tally), decided = decide(f->circuit, &f->out, tally);
+  if (verified && decided) tally->accepted++;
+}
+
 void run_chains(struct fold *f, struct tally *tally) {
   struct picker house = FIRST_PICKS;
   for (int i = 0; i < CHALLENGES; i++) {
     f->challenge = pick_challenge(&house);
     if (!fold(f, tally)) fold_by_hand(f);
     pick_positions(f, &house);
-    bool verified = verify(f, tally), decided = decide(f->circuit, &f->out, tally);
-    if (verified && decided) tally->accepted++;
+    finish(f, tally);
   }
 }

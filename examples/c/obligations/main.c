@@ -49,11 +49,11 @@ static void write_refusals(const struct tally *tally, bool counts, char text[LON
 /* Runs one; whether both counts are what they must be. Where all challenges must be accepted, casting and folding must not have refused either. */
 static bool run_one(const struct trial *trial, struct tally *without, struct tally *with) {
   char refusals[LONGEST];
-  *without = (struct tally){.expected = CHALLENGES};
-  *with = (struct tally){.expected = 0};
+  *without = (struct tally){.challenges = CHALLENGES, .expected = CHALLENGES};
+  *with = (struct tally){.challenges = CHALLENGES, .expected = 0};
   trial->run(without, with);
   write_refusals(without, false, refusals);
-  if (without->expected == CHALLENGES && refusals[0] != '\0') return false;
+  if (without->expected == without->challenges && refusals[0] != '\0') return false;
   return without->accepted == without->expected && with->accepted == with->expected;
 }
 
@@ -85,7 +85,7 @@ static bool print_table(void) {
 static void print_tally(const struct tally *tally) {
   char refusals[LONGEST];
   write_refusals(tally, true, refusals);
-  printf("Accepted at %" PRIu32 " of %d challenges.", tally->accepted, CHALLENGES);
+  printf("Accepted at %" PRIu32 " of %" PRIu32 " challenges.", tally->accepted, tally->challenges);
   if (refusals[0] != '\0') printf(" Refusals: %s.", refusals);
   printf("\n");
 }

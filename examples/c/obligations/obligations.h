@@ -9,7 +9,7 @@
 
 #include "lomvuze.h"
 
-/* How many challenges each run tries. */
+/* How many challenges a run tries that sets no other number. */
 enum { CHALLENGES = 2000 };
 
 /* The greatest sizes of the runs. */
@@ -61,6 +61,9 @@ void put(uint8_t *bytes, size_t j, uint32_t value);
 /* Puts the root of a pair's witness into its item. */
 void put_root(const struct circuit *circuit, struct pair *pair);
 
+/* The built-in point of a position, for k = 2. */
+uint32_t point(uint32_t position);
+
 /* ---- Verdicts */
 
 enum call { CAST, FOLD, VERIFY, DECIDE, CALLS };
@@ -68,11 +71,11 @@ enum call { CAST, FOLD, VERIFY, DECIDE, CALLS };
 enum { LAST_VERDICT = LOMVUZE_FIRST_INPUT };
 
 /*
- * At how many challenges every call that the clearing house ran had the verdict 0, at how many it must be so, and how often a call had one that
- * is not 0. Casting and folding are the registrar's calls: where they refuse, the rest is done by hand.
+ * How many challenges are tried, at how many every call that the clearing house ran had the verdict 0, at how many it must be so, and how often a
+ * call had one that is not 0. Casting and folding are the registrar's calls: where they refuse, the rest is done by hand.
  */
 struct tally {
-  uint32_t accepted, expected;
+  uint32_t challenges, accepted, expected;
   uint32_t refused[CALLS][LAST_VERDICT + 1];
 };
 
@@ -95,10 +98,18 @@ uint32_t pick_challenge(struct picker *picker);
 
 /* ---- Folds of two items */
 
+/* Points, or none for the built-in ones. */
+struct points {
+  uint8_t bytes[LOMVUZE_POINTS_BYTES(MOST_K)];
+  size_t length;
+};
+
+/* `points` has the points over which each item's root, and then the new one's, is that of its witness: none but where a run sets them. */
 struct fold {
   const struct circuit *circuit;
   uint8_t items[LOMVUZE_ITEMS_BYTES(MOST_M, MOST_N, FOLDED)];
   uint8_t witnesses[LOMVUZE_WITNESSES_BYTES(MOST_K, FOLDED)];
+  struct points points[FOLDED + 1];
   uint8_t quotient[LOMVUZE_QUOTIENT_BYTES(MOST_M, FOLDED)];
   uint8_t seed[LOMVUZE_SEED_BYTES];
   uint32_t challenge;
@@ -127,14 +138,17 @@ bool enough_different(const struct fold *fold);
 void fold_by_hand(struct fold *fold);
 
 /*
- * The calls. Each counts its verdict and says whether it is 0; `verify` opens the three witnesses first. The points that were agreed on are the
- * built-in ones; `decide_over` is lent others.
+ * The calls. Each counts its verdict and says whether it is 0; `verify` opens the three witnesses first, each over its points of the fold. The points
+ * that were agreed on are the built-in ones; `decide_over` is lent others.
  */
 bool cast(const struct circuit *circuit, struct claim claim, struct pair *pair, struct tally *tally);
 bool fold(struct fold *fold, struct tally *tally);
 bool verify(const struct fold *fold, struct tally *tally);
 bool decide(const struct circuit *circuit, const struct pair *pair, struct tally *tally);
 bool decide_over(const uint8_t *points, size_t length, const struct circuit *circuit, const struct pair *pair, struct tally *tally);
+
+/* Verifies a fold and decides its new item; counts where both verdicts are 0. */
+void finish(const struct fold *fold, struct tally *tally);
 
 /* Folds at each challenge, by hand where the call refuses, verifies the fold and decides the new item. */
 void run_chains(struct fold *f, struct tally *tally);
@@ -146,8 +160,9 @@ typedef void run(struct tally *without, struct tally *with);
 run e_of_a_fold, r_of_the_registrar, r_known_before, r_not_compared;
 run challenge_known_before, challenge_not_drawn;
 run position_known_before, position_twice, position_too_few, position_not_drawn, position_tried, positions_not_counted;
+run positions_of_each_fold;
 run other_item_decided, other_circuit, other_sizes, other_points;
 run not_decided, not_verified;
-run other_item_above, lower_not_verified;
+run other_item_above, lower_not_verified, positions_of_each_layer;
 
 #endif

@@ -7,12 +7,6 @@ static uint32_t value(const struct pair *pair) {
   return minus(times(number(pair->witness, 0), number(pair->witness, 1)), number(pair->item, 2));
 }
 
-/* Verifies and decides; counts where both verdicts are 0. */
-static void finish(const struct fold *f, struct tally *tally) {
-  bool verified = verify(f, tally), decided = decide(f->circuit, &f->out, tally);
-  if (verified && decided) tally->accepted++;
-}
-
 /* The quotient with which the fold holds at this one challenge. Both items have e = 0, so e has to be Z(a) * quotient. */
 static void make_quotient_for(struct fold *f, uint32_t a) {
   f->challenge = a;
@@ -43,9 +37,6 @@ static void try_challenges(bool drawn, struct tally *without, struct tally *with
 void challenge_known_before(struct tally *without, struct tally *with) { try_challenges(false, without, with); }
 
 void challenge_not_drawn(struct tally *without, struct tally *with) { try_challenges(true, without, with); }
-
-/* The built-in point of a position, for k = 2: g^position, where g = 31^((p - 1) / 4k). */
-static uint32_t point(uint32_t position) { return power(power(31, (LOMVUZE_P - 1) / 8), position); }
 
 /*
  * Looks for a new witness with which the new item holds and whose codeword is as before at one position. With v = (-point, 1), whose codeword is

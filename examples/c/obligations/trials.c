@@ -5,10 +5,10 @@ const struct obligation obligations[OBLIGATIONS] = {
     {"1 e is 0", "A fresh statement has e = 0."},
     {"2 r", "r is picked after x and root are fixed, and not by the registrar; or it is drawn from them, and compared."},
     {"3 challenge", "The challenge is picked after items and quotient are fixed, and not by the registrar; or it is drawn from them."},
-    {"4 positions", "At least k different positions, picked after items, quotient and new item are fixed, and not by the registrar; or drawn."},
+    {"4 positions", "At least k different positions, the same k in every fold of a list, and not picked by the registrar."},
     {"5 same bytes", "Verify and decide get the same new item and the same sizes, and decide gets the agreed circuit and points."},
     {"6 both verdicts", "The verdicts of verify and of decide are both 0."},
-    {"7 second layer", "What is folded again is, byte by byte, the new item of a fold that was verified."},
+    {"7 second layer", "What is folded again is, byte by byte, the new item of a fold that was verified, and both folds open the same k positions."},
 };
 
 const struct trial trials[TRIALS] = {
@@ -33,7 +33,7 @@ const struct trial trials[TRIALS] = {
      "2 × 3 = 6 and 4 × 5 = 21, both with e = 0. Fold would refuse. The registrar folds by hand, with the quotient\n"
      "with which the new item holds at the known challenge. Each of the challenges has its own quotient.",
      "The clearing house picks another challenge once the quotient is fixed. The fold passes verify, and decide\n"
-     "refuses. One quotient can pass at (l - 1)(m + 2) = 2 challenges at most."},
+     "refuses. In folds that open the same k positions, one quotient can pass at (l - 1)(m + 2) = 2 challenges at most."},
     {3, challenge_not_drawn, "the challenge is lent by whoever made the quotient for it", "the drawn one",
      "As before. The registrar says which challenge was drawn, and nobody draws it again.",
      "The clearing house draws the challenge from items and quotient, and it is another one. What this leaves: the\n"
@@ -62,6 +62,13 @@ const struct trial trials[TRIALS] = {
      "As before, until both positions are the one that does not show the change: at about one try in 64. t = 2 is k, but\n"
      "the positions are not different.",
      "As before."},
+    {4, positions_of_each_fold, "each fold opens two others, and one root is over no codeword", "the same two",
+     "The circuit says w0 × w0 = x1. 2 × 2 = 4 is true. x1 = 11 is false with every witness: 11 is no square modulo p. The\n"
+     "registrar makes its root over the values 1 to 8, which are no codeword, and fixes one quotient. The values at two\n"
+     "positions are those of one witness, and with it the fold holds at one challenge. Each of the 28 pairs of positions\n"
+     "has its own: 28 different challenges, where the bound for one pair is (l - 1)(m + 2) = 2.",
+     "Items, quotient and challenges are the same, and every fold opens positions 0 and 1. They leave one new witness. It\n"
+     "passes verify, and decide refuses it at every challenge but the one for 0 and 1."},
     {5, other_item_decided, "another item is decided, with e and x of the verified one", "the same item",
      "2 × 3 = 6 and 4 × 5 = 21, folded by hand: that passes verify. The item that is decided has e and x of the new\n"
      "item, but a root and a witness of its own, with which it holds.",
@@ -91,4 +98,9 @@ const struct trial trials[TRIALS] = {
      "passes verify, and decide refuses."},
     {7, lower_not_verified, "the lower fold is not verified", "verified too",
      "The lower fold's new item is that other item, and is folded with 3 × 7 = 21.", "Verify refuses the lower fold."},
+    {7, positions_of_each_layer, "each layer opens two others, and one root is over no codeword", "the same two",
+     "The lower fold opens positions 0 and 1 and passes verify. Its new item is folded with 3 × 7 = 21, byte by byte. At\n"
+     "0 and 1 its root is over the values of the combination, and at the others over those of a witness with which it\n"
+     "holds. The upper fold opens positions 2 and 3, which show that witness.",
+     "The upper fold opens positions 0 and 1 too. They show the combination: that passes verify, and decide refuses."},
 };

@@ -15,5 +15,7 @@ pub mod plain;
 mod plain_scan;
 pub mod plain_sheet;
 pub mod points;
+pub mod rows;
 pub mod running;
+pub mod runs;
 pub mod table;

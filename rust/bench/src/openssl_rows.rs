@@ -1,55 +1,31 @@
-//! OpenSSL's SHA-256 beside that in plain Rust: messages, and the tree over 256 leaves, hashed one node after the other.
+//! The rows of OpenSSL's SHA-256 beside that in plain Rust: messages, and the tree over 256 leaves, hashed one node after the
+//! other.
 //!
 //! OpenSSL reads which instructions it may use from the environment as it is loaded. So the program starts itself twice for
-//! these lines: as OpenSSL finds the processor, and with its SHA instructions masked.
+//! these rows: as OpenSSL finds the processor, and with its SHA instructions masked.
 
 use crate::openssl::OpenSsl;
 use crate::plain;
-use crate::table::{compare, head};
+use crate::table::compare;
 use lomvuze_proved as proved;
-use std::env;
 use std::hint::black_box;
-use std::process::Command;
 
-/// The argument with which the program prints these lines alone.
+/// The argument with which the program measures these rows, once.
 pub const ARGUMENT: &str = "openssl";
 
-const VARIABLE: &str = "OPENSSL_ia32cap";
+pub const VARIABLE: &str = "OPENSSL_ia32cap";
 
 /// Bit 29 of the word EBX of CPUID leaf 7, taken away.
-const NO_SHA: &str = ":~0x20000000";
+pub const NO_SHA: &str = ":~0x20000000";
 
-/// Both tables, or a line that says why there are none.
-pub fn print_tables() {
-    let Some(openssl) = OpenSsl::load() else {
-        println!("\nOpenSSL is not measured: libcrypto.so.3 (Debian: libssl3) is not there");
-        return;
-    };
-    let version = openssl.version();
-    print_table(&version, None);
-    print_table(&format!("{version}, SHA masked"), Some(NO_SHA));
+pub fn measure() {
+    let openssl = OpenSsl::load().expect("libcrypto.so.3");
+    measure_way("`SHA256`", |message| openssl.one_shot(message));
+    measure_way("`SHA256_Init`, `SHA256_Update`, `SHA256_Final`", |message| openssl.three_calls(message));
 }
 
-fn print_table(title: &str, capabilities: Option<&str>) {
-    println!();
-    head(title, "OpenSSL, ns", "plain, ns");
-    let mut child = Command::new(env::current_exe().unwrap());
-    child.arg(ARGUMENT).env_remove(VARIABLE);
-    if let Some(capabilities) = capabilities {
-        child.env(VARIABLE, capabilities);
-    }
-    assert!(child.status().unwrap().success(), "{title}");
-}
-
-/// The lines of one table.
-pub fn print_lines() {
-    let openssl = OpenSsl::load().unwrap();
-    print_way("SHA256()", |message| openssl.one_shot(message));
-    print_way("three calls", |message| openssl.three_calls(message));
-}
-
-/// The lines of one way to hash. All digests are those of the proved library too.
-fn print_way(way: &str, digest: impl Fn(&[u8]) -> [u8; 32]) {
+/// The rows of one way to hash. All digests are those of the proved library too.
+fn measure_way(way: &str, digest: impl Fn(&[u8]) -> [u8; 32]) {
     for (name, length, calls) in [("65 bytes", 65, 500), ("1 MiB", 1 << 20, 1)] {
         let message: Vec<u8> = (0..length).map(|i| (i * 7 + i / 256) as u8).collect();
         assert_eq!(digest(&message), proved::digest(&message).0);

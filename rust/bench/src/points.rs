@@ -36,15 +36,6 @@ impl Points {
     }
 }
 
-/// The answer of checks 2 and 12.
-#[inline(never)]
-pub fn answer(lent: &[u8]) -> u32 {
-    if !Points::fit(lent) {
-        return 2;
-    }
-    Points::check(lent).err().unwrap_or(0)
-}
-
 /// Whether all points are below p and no two are equal.
 #[inline(never)]
 pub fn differ(points: &[u32]) -> bool {

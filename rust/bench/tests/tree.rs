@@ -1,4 +1,4 @@
-//! The plain tree beside the reference, and that of OpenSSL where it is there.
+//! The plain tree and that of OpenSSL beside the reference.
 
 use bench::openssl::OpenSsl;
 use bench::plain;
@@ -25,9 +25,7 @@ fn trees() {
 
 #[test]
 fn openssl() {
-    let Some(openssl) = OpenSsl::load() else {
-        return println!("libcrypto.so.3 is not there");
-    };
+    let openssl = OpenSsl::load().expect("libcrypto.so.3 (Debian: libssl3) is not there");
     let codeword = Random::new(2).elements(256);
     let values: Vec<u32> = codeword.iter().map(|element| element.number()).collect();
     let root = tree::root(&code::entries(&codeword));

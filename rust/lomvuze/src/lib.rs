@@ -36,16 +36,17 @@
 //! The calls are about items. That a verdict on items is one about a ledger takes things that no call can test:
 //!
 //! - A fresh item has e = 0 ([`Item::is_fresh`]). Any other e is that of a fold which the caller verified.
-//! - r is drawn or picked after x and root are fixed, the challenge after items and quotient, the positions after items,
-//!   quotient and new item; none is picked by who hands these in. At least k positions differ
-//!   ([`Positions::count_different`]).
+//! - r is drawn or picked after x and root are fixed, the challenge after items and quotient; neither is picked by who
+//!   hands these in.
+//! - At least k of the positions differ ([`Positions::count_different`]), all folds of a list open the same k, and these
+//!   are not picked by who hands in the items: 0 to k − 1 will do. Where each fold has its own, they are drawn.
 //! - [`verify`] and [`decide`] get the same sizes and the same new item, [`decide`] the circuit that was agreed on, and
 //!   both accept: the verdict of [`verify`] counts, and its blocks say nothing about the items.
 //! - Every call that takes points is lent the same ones, which were agreed on.
 //! - A verdict covers the items of its fold and no others. More than 8 take several folds: [`examples::fold_sheet`]
 //!   says which are covered.
 //! - Where a new item is folded again, the verdict on the upper fold is about that item. It reaches the items of the
-//!   lower fold only if that was verified with the very item that is folded above.
+//!   lower fold only if that was verified with the very item that is folded above, and both open the same k positions.
 //!
 //! ## What drawing settles
 //!
@@ -55,8 +56,8 @@
 //! items and quotient, the positions from these, the challenge and the new item's root. Drawing does not settle
 //!
 //! - how many were tried. Who makes items, quotient or new root can change them and draw again, as often as wanted. For
-//!   two items or more, some 2^31 / ((l − 1) × (m + 2)) tries find a challenge at which a false item passes. No theorem is
-//!   about this: what many challenges show is stated of lent ones.
+//!   two items or more, and the same k positions at each try, some 2^31 / ((l − 1) × (m + 2)) tries find a challenge at which
+//!   a false item passes. No theorem is about this: what many challenges show is stated of lent ones.
 //! - that a seed is that of the items and the quotient that are verified. Drawing alone makes a [`Seed`], but it may be that
 //!   of another fold.
 //! - that there are k different positions: drawn ones repeat.

@@ -199,7 +199,8 @@ impl Points {
 }
 
 impl Positions {
-    /// How many different positions there are. A verdict rests on k at least.
+    /// How many different positions there are. A verdict rests on k at least, and what many challenges show on the same k in
+    /// each fold.
     ///
     /// ```
     /// use lomvuze::Positions;

@@ -18,7 +18,7 @@ use std::env;
 use world::{Target, World};
 
 /// The theorems, as file and name.
-const THEOREMS: [(&str, &str); 18] = [
+const THEOREMS: [(&str, &str); 34] = [
     ("theory/proofs/QuotientStated", "quotient-theorem"),
     ("theory/proofs/FirstStatement", "first-statement"),
     ("theory/proofs/SecondStatement", "second-statement"),
@@ -27,14 +27,30 @@ const THEOREMS: [(&str, &str); 18] = [
     ("draw/proofs/Permitted", "drawn-positions-permitted"),
     ("draw/proofs/Permitted", "drawn-r-fits"),
     ("draw/proofs/Permitted", "drawn-r-below"),
+    ("theory/proofs/Challenges", "permitted-is-no-node"),
+    ("theory/proofs/Challenges", "each-item-counts"),
+    ("theory/proofs/Challenges", "fold-at-node"),
+    ("theory/proofs/CombinationLaws", "L-sum"),
+    ("theory/proofs/LeadingOne", "new-leading-one"),
     ("theory/proofs/LeadingOne", "verified-never-13"),
     ("theory/proofs/LeadingOne", "folded-never-13"),
     ("theory/proofs/BlockCount", "blocks-at-most"),
+    ("theory/proofs/BlockCount", "blocks-few"),
     ("theory/proofs/BlockCount", "accepted-blocks"),
     ("theory/proofs/BlockCount", "refused-before-8"),
     ("theory/proofs/BlockCount", "refused-by-8"),
     ("theory/proofs/BlockCount", "refused-by-9"),
     ("theory/proofs/BlockCount", "answer-read-back"),
+    ("theory/proofs/BuiltInPoints", "by-hand-fit"),
+    ("theory/proofs/BuiltInPoints", "by-hand-differ"),
+    ("theory/proofs/BuiltInPoints", "by-hand-used"),
+    ("theory/proofs/BuiltInPoints", "encode-by-hand"),
+    ("theory/proofs/BuiltInPoints", "open-by-hand"),
+    ("theory/proofs/BuiltInPoints", "cast-by-hand"),
+    ("theory/proofs/BuiltInPoints", "quotient-by-hand"),
+    ("theory/proofs/BuiltInPoints", "fold-by-hand"),
+    ("theory/proofs/BuiltInPoints", "decide-by-hand"),
+    ("theory/proofs/Cases", "cases-hold"),
     ("tree/proofs/Positions", "opening-fixes-position"),
     ("roundtrip/proofs/RoundTrip", "read-written"),
 ];

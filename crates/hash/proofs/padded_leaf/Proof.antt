@@ -1,14 +1,11 @@
--- `padded_leaf` meets its contract: a leaf has one block.
+-- `padded_leaf` meets its contract: its message, which is padded, has one block.
 -- Assumes nothing.
-use mathlib.Core.Path.{_≡_, sym, ap, _∙_}
-use mathlib.Core.List.{List, _∷_, _++_}
-use Prim.Native.Nat.{ℕ, _+_}
-use native.Mathlib.Omega.{arith}
-use lib.ListN.{length, length-append}
+use mathlib.Core.Path.{sym, ap, _∙_}
+use Prim.Native.Nat.{_+_}
+use lib.ListN.{length}
 use lib.Seq.{length-take-le}
-use Rattle.hash.specs.Sha256.{blockCount, digest}
-use Rattle.hash.proofs.Blocks.{padded-digest}
-use Rattle.hash.proofs.DigestLaws.{block-count}
+use Rattle.hash.specs.Sha256.{paddedIn}
+use Rattle.hash.proofs.Tree.{leaf-message-blocks}
 use native.Mathlib.Omega.{arith}
 use borrow.Author.Needs.{needs}
 use Rattle.hash.proofs.padded_leaf.Statement.{statement}
@@ -35,9 +32,7 @@ returns : tie.Need-returns
 returns c =
     let made = c .before .before in
     let a = made .before .before .args in
-    let m : List ℕ = 0 ∷ (a .position ++ a .value .now) in
-    let one : 1 ≡ blockCount m = omega (arith, block-count m, length-append (a .position) (a .value .now)) in
-    padded-digest _ _ (c .padded .result) 1 (c .padded .ensures) (one ∙ ap blockCount (sym (made .leaf-message .ensures))) ∙ ap digest (made .leaf-message .ensures)
+    (c .padded .ensures ∙ ap (paddedIn 128) (made .leaf-message .ensures), leaf-message-blocks (a .position) (a .value .now) (search needs) (search needs))
 
 pub padded-leaf-spec : {M : Type 1} → statement M
 padded-leaf-spec =

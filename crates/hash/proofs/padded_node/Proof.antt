@@ -1,12 +1,8 @@
--- `padded_node` meets its contract: an inner node has two blocks.
+-- `padded_node` meets its contract: its message, which is padded, has two blocks.
 -- Assumes nothing.
-use mathlib.Core.Path.{_≡_, ap, _∙_}
-use native.Mathlib.Omega.{arith}
-use lib.ListN.{length}
-use Rattle.hash.specs.Sha256.{blockCount, digest}
-use Rattle.hash.proofs.Blocks.{padded-digest}
-use Rattle.hash.proofs.DigestLaws.{block-count}
-use native.Mathlib.Omega.{arith}
+use mathlib.Core.Path.{ap, _∙_}
+use Rattle.hash.specs.Sha256.{paddedIn}
+use Rattle.hash.proofs.Tree.{node-message-blocks}
 use borrow.Author.Needs.{needs}
 use Rattle.hash.proofs.padded_node.Statement.{statement}
 use Rattle.hash.proofs.padded_node.Tie as tie
@@ -23,10 +19,8 @@ padded-requires c κs = search needs
 returns : tie.Need-returns
 returns c =
     let made = c .before .before in
-    let msg = made .node-message .result in
-    let l : length msg ≡ 65 = search needs in
-    let two : 2 ≡ blockCount msg = omega (arith, block-count msg) in
-    padded-digest msg _ (c .padded .result) 2 (c .padded .ensures) two ∙ ap digest (made .node-message .ensures)
+    let a = made .before .args in
+    (c .padded .ensures ∙ ap (paddedIn 128) (made .node-message .ensures), node-message-blocks (a .left) (a .right) (search needs) (search needs))
 
 pub padded-node-spec : {M : Type 1} → statement M
 padded-node-spec =

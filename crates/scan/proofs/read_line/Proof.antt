@@ -92,24 +92,24 @@ returns-5 c =
     let e = c .before .before .before .before .before .before .before .before .before .before in
     let a = start e .args in
     let f = c .before .before .before .before .read-exactly .ensures in
-    let p = entry-read EntryA (a .st) _ (is-a (a .st)) (a .s .now) _ (a .st .entries .a) (a .a .now) _ (f .1) (c .entry .result) _ (f .0) (c .entry .ensures) in
-    line-read _ _ _ _ EntryA (with-keyword _ _ _ _ _ (c .before .before .before .before .before .before .before .enum-told2 .given .1) (at-tab e)) (p .0) _ _ _ _ _ _ _ _ _ _ (inr (refl, p .1)) (inl (refl, refl)) (inl (refl, refl)) (inl (refl, refl)) (inl (refl, refl))
+    let p = entry-read EntryA (a .st) _ (is-a (a .st)) (a .s .now) _ (a .st .entries .a) (c .entry .result) _ (f .0) (c .entry .ensures) in
+    line-read _ _ _ _ EntryA (with-keyword _ _ _ _ _ (c .before .before .before .before .before .before .before .enum-told2 .given .1) (at-tab e)) p _ _ _ _ _ _ _ _ _ _ (inr (refl, f .1)) (inl (refl, refl)) (inl (refl, refl)) (inl (refl, refl)) (inl (refl, refl))
 
 returns-6 : tie.Need-returns-6
 returns-6 c =
     let e = c .before .before .before .before .before .before .before .before .before .before in
     let a = start e .args in
     let f = c .before .before .before .before .read-exactly2 .ensures in
-    let p = entry-read EntryB (a .st) _ (is-b (a .st)) (a .s .now) _ (a .st .entries .b) (a .b .now) _ (f .1) (c .entry2 .result) _ (f .0) (c .entry2 .ensures) in
-    line-read _ _ _ _ EntryB (with-keyword _ _ _ _ _ (c .before .before .before .before .before .before .before .enum-told3 .given .1) (at-tab e)) (p .0) _ _ _ _ _ _ _ _ _ _ (inl (refl, refl)) (inr (refl, p .1)) (inl (refl, refl)) (inl (refl, refl)) (inl (refl, refl))
+    let p = entry-read EntryB (a .st) _ (is-b (a .st)) (a .s .now) _ (a .st .entries .b) (c .entry2 .result) _ (f .0) (c .entry2 .ensures) in
+    line-read _ _ _ _ EntryB (with-keyword _ _ _ _ _ (c .before .before .before .before .before .before .before .enum-told3 .given .1) (at-tab e)) p _ _ _ _ _ _ _ _ _ _ (inl (refl, refl)) (inr (refl, f .1)) (inl (refl, refl)) (inl (refl, refl)) (inl (refl, refl))
 
 returns-7 : tie.Need-returns-7
 returns-7 c =
     let e = c .before .before .before .before .before .before .before .before .before .before in
     let a = start e .args in
     let f = c .before .before .before .before .read-exactly3 .ensures in
-    let p = entry-read EntryC (a .st) _ (is-c (a .st)) (a .s .now) _ (a .st .entries .c) (a .c .now) _ (f .1) (c .entry3 .result) _ (f .0) (c .entry3 .ensures) in
-    line-read _ _ _ _ EntryC (with-keyword _ _ _ _ _ (c .before .before .before .before .before .before .before .enum-told4 .given .1) (at-tab e)) (p .0) _ _ _ _ _ _ _ _ _ _ (inl (refl, refl)) (inl (refl, refl)) (inr (refl, p .1)) (inl (refl, refl)) (inl (refl, refl))
+    let p = entry-read EntryC (a .st) _ (is-c (a .st)) (a .s .now) _ (a .st .entries .c) (c .entry3 .result) _ (f .0) (c .entry3 .ensures) in
+    line-read _ _ _ _ EntryC (with-keyword _ _ _ _ _ (c .before .before .before .before .before .before .before .enum-told4 .given .1) (at-tab e)) p _ _ _ _ _ _ _ _ _ _ (inl (refl, refl)) (inl (refl, refl)) (inr (refl, f .1)) (inl (refl, refl)) (inl (refl, refl))
 
 returns-8 : tie.Need-returns-8
 returns-8 c =

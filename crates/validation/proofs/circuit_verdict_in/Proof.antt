@@ -8,7 +8,9 @@ use lib.Dec.{leb}
 use lib.ListN.{length}
 use Rattle.numbers.proofs.Tests.{and-left, and-right}
 use Rattle.scan.specs.Sheet.{sheetLines, ordered}
-use Rattle.scan.specs.Scan.{stateAfter}
+use Rattle.scan.proofs.StateAfter.{stateAfter}
+use Rattle.lines.specs.declared.keyword.Keyword.the-variants.{EntryA, EntryB, EntryC}
+use Rattle.scan.proofs.Scanned.{entries-state, entries-filled}
 use Rattle.validation.proofs.AfterScan.{AfterScan, entry-bounds, circuit-same}
 use Rattle.validation.proofs.circuit_verdict_in.Statement.{statement}
 use Rattle.validation.proofs.circuit_verdict_in.Tie as tie
@@ -34,7 +36,7 @@ circuit-answer-requires c κs =
     let r = read-of c in
     let s = start r in
     let large = s .pre .2 in
-    (entry-bounds (whole s) (r .scan-entries .result) (r .scan-entries .ensures .0 (is-ordered s)), record { a-length = omega (arith, large .a-length); b-length = omega (arith, large .b-length); c-length = omega (arith, large .c-length) })
+    (entry-bounds (whole s) (r .scan-entries .result) (entries-state _ (is-ordered s) (r .scan-entries .ensures .0)), record { a-length = omega (arith, large .a-length); b-length = omega (arith, large .b-length); c-length = omega (arith, large .c-length) })
 
 returns : tie.Need-returns
 returns c =
@@ -42,7 +44,7 @@ returns c =
     let s = start r in
     let o = is-ordered s in
     let put = r .scan-entries .ensures in
-    c .circuit-answer .ensures ∙ circuit-same (whole s) (r .scan-entries .result) (put .0 o) _ _ _ _ _ _ (s .pre .2) (put .1 .0 o) (put .1 .1 .0 o) (put .1 .1 .1 o)
+    c .circuit-answer .ensures ∙ circuit-same (whole s) (r .scan-entries .result) (entries-state _ o (put .0)) _ _ _ _ _ _ (s .pre .2) (entries-filled _ o EntryA refl refl _ (put .1 .0)) (entries-filled _ o EntryB refl refl _ (put .1 .1 .0)) (entries-filled _ o EntryC refl refl _ (put .1 .1 .1))
 
 pub circuit-verdict-in-spec : {M : Type 1} → statement M
 circuit-verdict-in-spec =

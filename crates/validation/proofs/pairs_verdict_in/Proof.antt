@@ -1,11 +1,13 @@
 -- `pairs_verdict_in` meets its contract: the checks are run in their order, and the scan fills the buffers.
-use mathlib.Core.Path.{_≡_, sym, ap, _∙_}
+use mathlib.Core.Path.{_≡_, refl, sym, ap, _∙_}
 use mathlib.Core.Bool.{Bool, true, _&&_}
 use native.Mathlib.Omega.{arith}
 use Rattle.numbers.proofs.Tests.{and-left}
 use Rattle.theory.specs.Checks.{answer}
 use Rattle.checks.proofs.Calls.{fails, passes, passed}
+use Rattle.lines.specs.declared.keyword.Keyword.the-variants.{Item, Wit}
 use Rattle.scan.specs.Sheet.{sheetLines, ordered}
+use Rattle.scan.proofs.Scanned.{scanned-ordered, scanned-state, scanned-filled}
 use Rattle.validation.specs.SheetChecks.{keepsRules, countsFit, stateFits}
 use Rattle.validation.specs.CheckParts.{pairChecks}
 use Rattle.validation.proofs.SheetCheckLaws.{refused, too-long, short}
@@ -24,7 +26,7 @@ start c = c .before .before .before .before .before .before .before .before .bef
 -- ---- check 1
 
 in-order : (c : tie.After-is-end) → c .is-end .result ≡ ordered (sheetLines (start (scan-of c) .args .sheet .now))
-in-order c = c .is-end .ensures ∙ scan-of c .scan .ensures .0
+in-order c = c .is-end .ensures ∙ scanned-ordered _ (scan-of c .scan .ensures .0)
 
 rules : (c : tie.After-is-end) → c .is-end .result ≡ keepsRules (start (scan-of c) .args .sheet .now)
 rules c = short (start (scan-of c) .args .sheet .now) (omega (arith, scan-of c .before .before .before .before .before .before .if1 .left)) (in-order c)
@@ -37,7 +39,7 @@ is-ordered c = passed (in-order (c .before)) (c .if2 .left)
 counts : (c : tie.After-counts-fit) → (let s = start (scan-of (c .before .before)) in (c .counts-fit .result && s .args .lengths) ≡ (countsFit (sheetLines (s .args .sheet .now)) && s .args .lengths))
 counts c =
     let scan = scan-of (c .before .before) in
-    ap (λ (t : Bool). t && start scan .args .lengths) (c .counts-fit .ensures ∙ ap stateFits (scan .scan .ensures .1 .0 (is-ordered (c .before))))
+    ap (λ (t : Bool). t && start scan .args .lengths) (c .counts-fit .ensures ∙ ap stateFits (scanned-state _ (is-ordered (c .before)) (scan .scan .ensures .0)))
 
 fits : (c : tie.Else3) → stateFits (scan-of (c .before .before .before) .scan .result) ≡ true
 fits c =
@@ -49,7 +51,7 @@ fits c =
 scanned : (c : tie.Else3) → (let scan = scan-of (c .before .before .before) in AfterScan (start scan .args .sheet .now) (scan .scan .result))
 scanned c =
     let c2 = c .before .before in
-    record { state = scan-of (c2 .before) .scan .ensures .1 .0 (is-ordered c2); is-ordered = is-ordered c2; fits = fits c }
+    record { state = scanned-state _ (is-ordered c2) (scan-of (c2 .before) .scan .ensures .0); is-ordered = is-ordered c2; fits = fits c }
 
 -- ---- check 3
 
@@ -61,10 +63,10 @@ contents c =
     let c3 = else3 c in
     let c2 = c3 .before .before in
     let scan = scan-of (c2 .before) in
-    let put = scan .scan .ensures .1 .1 .1 .1 .1 in
+    let put = scan .scan .ensures .1 .1 .1 .1 in
     passes 1 (rules (c2 .before)) (c2 .if2 .left) (
     passes 2 (counts (c3 .before)) (c3 .if3 .left) (
-    c .pairs-answer .ensures ∙ pairs-same (scanned c3) _ _ _ _ (start scan .pre) (put .0 (is-ordered c2)) (put .1 (is-ordered c2))))
+    c .pairs-answer .ensures ∙ pairs-same (scanned c3) _ _ _ _ (start scan .pre) (scanned-filled _ (is-ordered c2) Item refl _ (put .0)) (scanned-filled _ (is-ordered c2) Wit refl _ (put .1))))
 
 returns : tie.Need-returns
 returns c =

@@ -46,63 +46,66 @@ returns-3 c =
 circuit-in-order-requires : tie.Need-circuit-in-order-requires
 circuit-in-order-requires c κs = let h = fits-here (c .before .before .before .before) in (h .sizes .m-most, h .sizes .n-most, h .sizes .k-most)
 
+leading-one-requires : tie.Need-leading-one-requires
+leading-one-requires c κs =
+    let h = fits-here (c .before .before .before .before .before) in
+    (h .sizes .n-least, h .x-length, below-here (c .before .before .before) .x-below)
+
 returns-4 : tie.Need-returns-4
 returns-4 c =
-    let c2 = c .before .before .before .before .before .before in
-    let c3 = c .before .before .before .before in
-    let c12 = c .before .before in
+    let c12 = c .before .before .before in
+    let c3 = c12 .before .before in
+    let c2 = c3 .before .before in
     passes 2 (c2 .before .fits2 .ensures) (c2 .if1 .left) (
     passes 3 (c3 .before .below .ensures) (c3 .if2 .left) (
     passes 12 (c12 .before .differ .ensures) (c12 .if3 .left) (
-    fails 4 _ (c .before .circuit-in-order .ensures) (c .if4 .taken))))
-
-leading-one-requires : tie.Need-leading-one-requires
-leading-one-requires c κs = let h = fits-here (c .before .before .before .before .before .before) in (h .sizes .n-least, h .x-length, below-here (c .before .before .before .before) .x-below)
+    fails 4 _ (c .before .before .circuit-in-order .ensures) (c .if4 .taken))))
 
 returns-5 : tie.Need-returns-5
 returns-5 c =
-    let c2 = c .before .before .before .before .before .before .before .before in
-    let c3 = c .before .before .before .before .before .before in
-    let c12 = c .before .before .before .before in
-    let c4 = c .before .before in
+    let c4 = c .before in
+    let c12 = c4 .before .before .before in
+    let c3 = c12 .before .before in
+    let c2 = c3 .before .before in
     passes 2 (c2 .before .fits2 .ensures) (c2 .if1 .left) (
     passes 3 (c3 .before .below .ensures) (c3 .if2 .left) (
     passes 12 (c12 .before .differ .ensures) (c12 .if3 .left) (
-    passes 4 (c4 .before .circuit-in-order .ensures) (c4 .if4 .left) (
-    fails 13 _ (c .before .leading-one .ensures) (c .if5 .taken)))))
+    passes 4 (c4 .before .before .circuit-in-order .ensures) (c4 .if4 .left) (
+    fails 13 _ (c4 .before .leading-one .ensures) (c .if5 .taken)))))
 
 holds-requires : tie.Need-holds-requires
 holds-requires c κs =
-    let h = fits-here (c .before .before .before .before .before .before .before .before) in
-    let c4 = c .before .before in
-    ((h .sizes .m-most, h .sizes .n-most, h .sizes .k-most, h .r-length, h .x-length, h .w-length), (below-here (c .before .before .before .before .before .before) .r-below, passed (c4 .before .circuit-in-order .ensures) (c4 .if4 .left)))
+    let c4 = c .before in
+    let c12 = c4 .before .before .before in
+    let h = fits-here (c12 .before .before .before .before) in
+    ((h .sizes .m-most, h .sizes .n-most, h .sizes .k-most, h .r-length, h .x-length, h .w-length), (below-here (c12 .before .before) .r-below, passed (c4 .before .before .circuit-in-order .ensures) (c4 .if4 .left)))
 
 returns-6 : tie.Need-returns-6
 returns-6 c =
-    let c2 = c .before .before .before .before .before .before .before .before .before .before in
-    let c3 = c .before .before .before .before .before .before .before .before in
-    let c12 = c .before .before .before .before .before .before in
-    let c4 = c .before .before .before .before in
     let c13 = c .before .before in
+    let c4 = c13 .before in
+    let c12 = c4 .before .before .before in
+    let c3 = c12 .before .before in
+    let c2 = c3 .before .before in
     passes 2 (c2 .before .fits2 .ensures) (c2 .if1 .left) (
     passes 3 (c3 .before .below .ensures) (c3 .if2 .left) (
     passes 12 (c12 .before .differ .ensures) (c12 .if3 .left) (
-    passes 4 (c4 .before .circuit-in-order .ensures) (c4 .if4 .left) (
-    passes 13 (c13 .before .leading-one .ensures) (c13 .if5 .left) (
+    passes 4 (c4 .before .before .circuit-in-order .ensures) (c4 .if4 .left) (
+    passes 13 (c4 .before .leading-one .ensures) (c13 .if5 .left) (
     fails 11 _ (c .before .holds .ensures) (c .if6 .taken))))))
 
 returns-7 : tie.Need-returns-7
 returns-7 c =
-    let c2 = c .before .before .before .before .before .before .before .before .before .before in
-    let c3 = c .before .before .before .before .before .before .before .before in
-    let c12 = c .before .before .before .before .before .before in
-    let c4 = c .before .before .before .before in
     let c13 = c .before .before in
+    let c4 = c13 .before in
+    let c12 = c4 .before .before .before in
+    let c3 = c12 .before .before in
+    let c2 = c3 .before .before in
     passes 2 (c2 .before .fits2 .ensures) (c2 .if1 .left) (
     passes 3 (c3 .before .below .ensures) (c3 .if2 .left) (
     passes 12 (c12 .before .differ .ensures) (c12 .if3 .left) (
-    passes 4 (c4 .before .circuit-in-order .ensures) (c4 .if4 .left) (
-    passes 13 (c13 .before .leading-one .ensures) (c13 .if5 .left) (
+    passes 4 (c4 .before .before .circuit-in-order .ensures) (c4 .if4 .left) (
+    passes 13 (c4 .before .leading-one .ensures) (c13 .if5 .left) (
     passes 11 (c .before .holds .ensures) (c .if6 .left) (
     refl))))))
 
@@ -117,8 +120,8 @@ verdict-spec =
     differ-requires
     returns-3
     circuit-in-order-requires
-    returns-4
     leading-one-requires
+    returns-4
     returns-5
     holds-requires
     returns-6

@@ -21,21 +21,23 @@ returns c = let s = c .before .fits2 in fails 2 _ (s .ensures) (c .if1 .taken)
 elements-below-requires : tie.Need-elements-below-requires
 elements-below-requires c κs = fitting c .w-length
 
-returns-2 : tie.Need-returns-2
-returns-2 c = passes 2 (c .before .before .before .fits2 .ensures) (c .before .before .if1 .left) (fails 3 _ (c .before .elements-below .ensures) (c .if2 .taken))
-
 differ-requires : tie.Need-differ-requires
-differ-requires c κs = let h = fitting (c .before .before) in (h .count, h .points-fit)
+differ-requires c κs = let h = fitting (c .before) in (h .count, h .points-fit)
+
+returns-2 : tie.Need-returns-2
+returns-2 c = passes 2 (c .before .before .before .before .fits2 .ensures) (c .before .before .before .if1 .left) (fails 3 _ (c .before .before .elements-below .ensures) (c .if2 .taken))
 
 returns-3 : tie.Need-returns-3
 returns-3 c =
-    passes 2 (c .before .before .before .before .before .fits2 .ensures) (c .before .before .before .before .if1 .left)
-    (passes 3 (c .before .before .before .elements-below .ensures) (c .before .before .if2 .left) (fails 12 _ (c .before .differ .ensures) (c .if3 .taken)))
+    let e = c .before in
+    passes 2 (e .before .before .before .before .fits2 .ensures) (e .before .before .before .if1 .left)
+    (passes 3 (e .before .before .elements-below .ensures) (e .if2 .left) (fails 12 _ (e .before .differ .ensures) (c .if3 .taken)))
 
 returns-4 : tie.Need-returns-4
 returns-4 c =
-    passes 2 (c .before .before .before .before .before .fits2 .ensures) (c .before .before .before .before .if1 .left)
-    (passes 3 (c .before .before .before .elements-below .ensures) (c .before .before .if2 .left) (passes 12 (c .before .differ .ensures) (c .if3 .left) refl))
+    let e = c .before in
+    passes 2 (e .before .before .before .before .fits2 .ensures) (e .before .before .before .if1 .left)
+    (passes 3 (e .before .before .elements-below .ensures) (e .if2 .left) (passes 12 (e .before .differ .ensures) (c .if3 .left) refl))
 
 pub verdict-spec : {M : Type 1} → statement M
 verdict-spec =
@@ -44,7 +46,7 @@ verdict-spec =
     fits-requires
     returns
     elements-below-requires
-    returns-2
     differ-requires
+    returns-2
     returns-3
     returns-4)

@@ -1,5 +1,8 @@
 -- `read::read` meets its contract: a refusal leaves the call's buffers, an acceptance fills them.
+use mathlib.Core.Path.{refl}
 use native.Mathlib.Omega.{arith}
+use Rattle.lines.specs.declared.keyword.Keyword.the-variants.{EntryA, EntryB, EntryC, Item, Wit}
+use Rattle.scan.proofs.Scanned.{scanned-filled}
 use Rattle.sheet.proofs.SheetCall.{Called, calls, left, short, in-order, filled-all}
 use borrow.Author.Needs.{needs}
 use Rattle.sheet.proofs.read.read.Statement.{statement}
@@ -31,8 +34,8 @@ returns-2 c =
     let c1 = scan .before .before .before .before .before .before in
     let h = called (c1 .before) in
     let o = in-order h (omega (arith, c1 .if1 .left)) in
-    let put = scan .scan .ensures .1 .1 in
-    filled-all h (omega (arith, c1 .if1 .left)) (put .0 o) (put .1 .0 o) (put .1 .1 .0 o) (put .1 .1 .1 .0 o) (put .1 .1 .1 .1 o)
+    let put = scan .scan .ensures .1 in
+    filled-all h (omega (arith, c1 .if1 .left)) (scanned-filled _ o EntryA refl _ (put .0)) (scanned-filled _ o EntryB refl _ (put .1 .0)) (scanned-filled _ o EntryC refl _ (put .1 .1 .0)) (scanned-filled _ o Item refl _ (put .1 .1 .1 .0)) (scanned-filled _ o Wit refl _ (put .1 .1 .1 .1))
 
 pub read-spec : {M : Type 1} → statement M
 read-spec =

@@ -8,6 +8,7 @@ use borrow.Author.Needs.{needs}
 use lib.ListN.{length, getD, length-set}
 use denote.Ref.{now}
 use Rattle.hash.specs.Sha256.{H₀, hash, bytes, digest}
+use Rattle.hash.proofs.Blocks.{padded-digest}
 use Rattle.tree.specs.Merkle.{leafString}
 use Rattle.tree.specs.Entry.{entriesFrom}
 use Rattle.tree.proofs.Entries.{leaf-from}
@@ -76,7 +77,7 @@ loop-again c =
       omega arith,
       length-set (l .padded) (l .i) (c .padded-leaf .result) ∙ l .inv .1,
       set-more (λ (q : ℕ) (p : List ℕ). bytes (hash H₀ p 1) 8 ≡ digest (leafString (getD (entriesFrom (a .first) (now (a .values))) (a .at + q) [])))
-          (l .padded) (l .i) (c .padded-leaf .result) [] (omega arith) (l .inv .2) (c .padded-leaf .ensures ∙ ap digest string),
+          (l .padded) (l .i) (c .padded-leaf .result) [] (omega arith) (l .inv .2) (padded-digest _ 128 (c .padded-leaf .ensures .0) (c .padded-leaf .ensures .1) ∙ ap digest string),
     )
 
 digests-requires : tie.Need-digests-requires Inv-loop μ-loop

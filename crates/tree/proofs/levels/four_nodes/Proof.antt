@@ -8,6 +8,7 @@ use borrow.Author.Needs.{needs}
 use lib.ListN.{length, getD, length-set}
 use denote.Ref.{now}
 use Rattle.hash.specs.Sha256.{H₀, hash, bytes, digest}
+use Rattle.hash.proofs.Blocks.{padded-digest}
 use Rattle.tree.specs.Merkle.{nodeString}
 use Rattle.tree.proofs.Stores.{set-more}
 use Rattle.tree.proofs.levels.four_nodes.Statement.{statement}
@@ -65,7 +66,7 @@ loop-again c =
       omega arith,
       length-set (l .padded) (l .i) (c .padded-node .result) ∙ l .inv .1,
       set-more (λ (q : ℕ) (p : List ℕ). bytes (hash H₀ p 2) 8 ≡ digest (nodeString (getD (now (a .nodes)) (2 * (a .n + q)) []) (getD (now (a .nodes)) (2 * (a .n + q) + 1) [])))
-          (l .padded) (l .i) (c .padded-node .result) [] (omega arith) (l .inv .2) (c .padded-node .ensures),
+          (l .padded) (l .i) (c .padded-node .result) [] (omega arith) (l .inv .2) (padded-digest _ 128 (c .padded-node .ensures .0) (c .padded-node .ensures .1)),
     )
 
 digests-requires : tie.Need-digests-requires Inv-loop μ-loop
