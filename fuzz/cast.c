@@ -1,11 +1,6 @@
 /* lomvuze_cast */
 #include "target.h"
 
-static uint64_t run(const struct call *c) {
-  const struct sizes *s = &c->sizes;
-  return lomvuze_cast(s->m, s->n, s->k, OVER(c), BYTES(c->in[4]), BYTES(c->in[5]), BYTES(c->in[6]), BYTES(c->out[0]));
-}
-
 /*
  * The item put together by hand, with the root that encoding gives, is the one that was written. Deciding it gives the same answer. Encoding knows
  * the points and the witness alone: where it refuses them, casting does, or it refuses another element before.
@@ -15,8 +10,8 @@ static void compare(const struct call *c, uint64_t answer) {
   struct buffer r = c->in[4], x = c->in[5], w = c->in[6];
   struct buffer code = scratch(LOMVUZE_CODEWORD_BYTES(s->k)), item = scratch(LOMVUZE_ITEM_BYTES(s->m, s->n));
   struct buffer root = slice(item, LOMVUZE_ITEM_ROOT(s->m, s->n), LOMVUZE_DIGEST_BYTES);
-  if (r.length > 0) memcpy(item.bytes + LOMVUZE_NUMBER_BYTES, r.bytes, r.length);
-  memcpy(item.bytes + LOMVUZE_NUMBER_BYTES + r.length, x.bytes, x.length);
+  if (r.length > 0) memcpy(item.bytes + LOMVUZE_ITEM_R, r.bytes, r.length);
+  memcpy(item.bytes + LOMVUZE_ITEM_X(s->m), x.bytes, x.length);
 
   uint32_t encoded = lomvuze_encode(s->k, BYTES(c->in[0]), BYTES(w), BYTES(code), BYTES(root));
   bool before = encoded == LOMVUZE_POINTS && answer == LOMVUZE_ELEMENT;
@@ -25,12 +20,4 @@ static void compare(const struct call *c, uint64_t answer) {
   REQUIRE(answer != LOMVUZE_ACCEPTED || memcmp(item.bytes, c->out[0].bytes, item.length) == 0, "another item was written");
 }
 
-const struct target target = {
-    "mnk",
-    {POINTS, ENTRIES, ENTRIES, ENTRIES, R, X, WITNESS},
-    {ITEM},
-    {LOMVUZE_SIZE, LOMVUZE_ELEMENT, LOMVUZE_POINTS, LOMVUZE_CIRCUIT, LOMVUZE_FIRST_INPUT, LOMVUZE_CLAIM},
-    run,
-    compare,
-    NULL,
-};
+const struct target target = {&described_calls[CALL_CAST], compare, NULL};

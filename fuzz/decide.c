@@ -1,11 +1,6 @@
 /* lomvuze_decide */
 #include "target.h"
 
-static uint64_t run(const struct call *c) {
-  const struct sizes *s = &c->sizes;
-  return lomvuze_decide(s->m, s->n, s->k, OVER(c), BYTES(c->in[4]), BYTES(c->in[5]));
-}
-
 /* Folding the item alone, at any challenge, gives the same answer and gives it back. With another e or root it is refused. */
 static void compare(const struct call *c, uint64_t answer) {
   const struct sizes *s = &c->sizes;
@@ -16,21 +11,14 @@ static void compare(const struct call *c, uint64_t answer) {
   REQUIRE(memcmp(item.bytes, new_item.bytes, item.length) == 0 && memcmp(w.bytes, new_w.bytes, w.length) == 0,
           "folding the item alone gives another");
 
-  uint32_t e = number_at(item.bytes);
-  put_number(item.bytes, (e + 1) % LOMVUZE_P);
-  REQUIRE(run(c) == LOMVUZE_CLAIM, "another e is accepted");
-  put_number(item.bytes, e);
-  item.bytes[item.length - 1] ^= 1;
-  REQUIRE(run(c) == LOMVUZE_ROOT, "another root is accepted");
-  item.bytes[item.length - 1] ^= 1;
+  uint8_t *e_bytes = item.bytes + LOMVUZE_ITEM_E, *root = item.bytes + LOMVUZE_ITEM_ROOT(s->m, s->n);
+  uint32_t e = number_at(e_bytes);
+  put_number(e_bytes, (e + 1) % LOMVUZE_P);
+  REQUIRE(run_decide(c) == LOMVUZE_CLAIM, "another e is accepted");
+  put_number(e_bytes, e);
+  root[LOMVUZE_DIGEST_BYTES - 1] ^= 1;
+  REQUIRE(run_decide(c) == LOMVUZE_ROOT, "another root is accepted");
+  root[LOMVUZE_DIGEST_BYTES - 1] ^= 1;
 }
 
-const struct target target = {
-    "mnk",
-    {POINTS, ENTRIES, ENTRIES, ENTRIES, ITEM, WITNESS},
-    {END},
-    {LOMVUZE_SIZE, LOMVUZE_ELEMENT, LOMVUZE_POINTS, LOMVUZE_CIRCUIT, LOMVUZE_FIRST_INPUT, LOMVUZE_ROOT, LOMVUZE_CLAIM},
-    run,
-    compare,
-    NULL,
-};
+const struct target target = {&described_calls[CALL_DECIDE], compare, NULL};

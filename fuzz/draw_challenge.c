@@ -1,16 +1,13 @@
 /* lomvuze_draw_challenge */
 #include "target.h"
 
-static uint64_t run(const struct call *c) {
-  const struct sizes *s = &c->sizes;
-  return lomvuze_draw_challenge(s->m, s->n, s->k, s->l, BYTES(c->in[0]), BYTES(c->in[1]), BYTES(c->out[0]), BYTES(c->out[1]));
-}
-
 /* Whether e, r and x of every item, and all coefficients, are below p. */
 static bool elements_pass(const struct call *c) {
   const struct sizes *s = &c->sizes;
   for (size_t i = 0; i < s->l; i++) {
-    if (!below_p(slice(c->in[0], i * LOMVUZE_ITEM_BYTES(s->m, s->n), LOMVUZE_ITEM_ROOT(s->m, s->n)))) return false;
+    for (size_t j = 0; j < item_count(s); j++) {
+      if (number_at(item_number(s, c->in[0].bytes + LOMVUZE_ITEMS_BYTES(s->m, s->n, i), j)) >= LOMVUZE_P) return false;
+    }
   }
   return below_p(c->in[1]);
 }
@@ -36,6 +33,4 @@ static void compare(const struct call *c, uint64_t answer) {
   REQUIRE(challenge == s->l + first_bytes(&of_challenge, 8) % (LOMVUZE_P - s->l), "another number is drawn anew");
 }
 
-const struct target target = {
-    "mnkl", {ITEMS, QUOTIENT}, {SEED, CHALLENGE}, {LOMVUZE_SIZE, LOMVUZE_ELEMENT, LOMVUZE_FIRST_INPUT}, run, compare, NULL,
-};
+const struct target target = {&described_calls[CALL_DRAW_CHALLENGE], compare, NULL};

@@ -1,11 +1,6 @@
 /* lomvuze_draw_positions */
 #include "target.h"
 
-static uint64_t run(const struct call *c) {
-  const struct sizes *s = &c->sizes;
-  return lomvuze_draw_positions(s->k, s->l, s->t, s->challenge, BYTES(c->in[0]), BYTES(c->in[1]), BYTES(c->out[0]));
-}
-
 /* Check 5 is what the challenge says. The positions, drawn anew, are those that were written, below 4k. */
 static void compare(const struct call *c, uint64_t answer) {
   const struct sizes *s = &c->sizes;
@@ -26,4 +21,4 @@ static void change(struct input *input, size_t (*below)(size_t)) {
   input->sizes.challenge = challenges[below(sizeof challenges / sizeof challenges[0])];
 }
 
-const struct target target = {"klta", {SEED, ROOT}, {POSITIONS}, {LOMVUZE_SIZE, LOMVUZE_CHALLENGE}, run, compare, change};
+const struct target target = {&described_calls[CALL_DRAW_POSITIONS], compare, change};

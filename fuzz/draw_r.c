@@ -1,10 +1,6 @@
 /* lomvuze_draw_r */
 #include "target.h"
 
-static uint64_t run(const struct call *c) {
-  return lomvuze_draw_r(c->sizes.m, c->sizes.n, BYTES(c->in[0]), BYTES(c->in[1]), BYTES(c->out[0]));
-}
-
 /* Check 3 is what the numbers of x say. The numbers of r, drawn anew, are those that were written, below p. */
 static void compare(const struct call *c, uint64_t answer) {
   REQUIRE((answer == LOMVUZE_ELEMENT) == !below_p(c->in[1]), "check 3 is not what the elements say");
@@ -16,6 +12,4 @@ static void compare(const struct call *c, uint64_t answer) {
   require_drawn(c->out[0], &message, 8, LOMVUZE_P);
 }
 
-const struct target target = {
-    "mn", {ROOT, X}, {R}, {LOMVUZE_SIZE, LOMVUZE_ELEMENT, LOMVUZE_FIRST_INPUT}, run, compare, NULL,
-};
+const struct target target = {&described_calls[CALL_DRAW_R], compare, NULL};

@@ -1,4 +1,4 @@
-/* Drawing anew: SHA-256, with the section numbers of FIPS 180-4, and numbers as the header's DRAWING takes them from digests. */
+/* Drawing anew: SHA-256, with the section numbers of FIPS 180-4, and numbers as docs/FORMAT.md (Drawing) takes them from digests. */
 #include "target.h"
 
 /* 4.2.2 */

@@ -1,10 +1,6 @@
 /* lomvuze_encode */
 #include "target.h"
 
-static uint64_t run(const struct call *c) {
-  return lomvuze_encode(c->sizes.k, BYTES(c->in[0]), BYTES(c->in[1]), BYTES(c->out[0]), BYTES(c->out[1]));
-}
-
 /*
  * Opening every position gives the same answer and shows the codeword; casting gives the root. With points that are lent the codeword has the sums
  * that define it.
@@ -27,6 +23,4 @@ static void compare(const struct call *c, uint64_t answer) {
   REQUIRE(memcmp(root.bytes, c->out[1].bytes, root.length) == 0, "casting has another root");
 }
 
-const struct target target = {
-    "k", {POINTS, WITNESS}, {CODEWORD, ROOT}, {LOMVUZE_SIZE, LOMVUZE_ELEMENT, LOMVUZE_POINTS}, run, compare, NULL,
-};
+const struct target target = {&described_calls[CALL_ENCODE], compare, NULL};

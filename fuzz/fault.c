@@ -18,17 +18,17 @@ static bool is(const char *name) {
 
 /* The check that the call runs directly after this one. */
 static uint32_t following(uint32_t check) {
-  const uint32_t *next = target.checks;
+  const uint32_t *next = target.call->checks;
   while (*next != check) next++;
   return next[1];
 }
 
 /* Another seed; or the last number becomes the next one in its range, or one outside. */
 static void draw_otherwise(const struct sizes *s, enum part part, struct buffer drawn) {
-  if (part == SEED && is("draws-another-seed")) drawn.bytes[0] ^= 1;
-  if (part == SEED) return;
+  if (part == PART_SEED && is("draws-another-seed")) drawn.bytes[0] ^= 1;
+  if (part == PART_SEED) return;
   uint8_t *last = drawn.bytes + drawn.length - LOMVUZE_NUMBER_BYTES;
-  uint32_t limit = part == POSITIONS ? 4 * s->k : LOMVUZE_P;
+  uint32_t limit = part == PART_POSITIONS ? 4 * s->k : LOMVUZE_P;
   if (is("draws-another-number")) put_number(last, (number_at(last) + 1) % limit);
   if (is("draws-too-great-a-number")) put_number(last, limit);
   if (is("draws-too-small-a-challenge")) put_number(last, s->l - 1);
@@ -52,8 +52,8 @@ static void spoil(const struct call *call, uint32_t verdict, unsigned calls) {
     size_t end = written(call, i);
     if (is("writes-beyond") && end < out->length) out->bytes[end] ^= 1;
     if (is("leaves-a-byte") && end > 0) out->bytes[end - 1] = (uint8_t)calls;
-    if (is("writes-another-byte") && end > 0 && target.outputs[i] != SHEET_SIZES) out->bytes[end - 1] ^= 1;
-    draw_otherwise(&call->sizes, target.outputs[i], *out);
+    if (is("writes-another-byte") && end > 0 && target.call->outputs[i] != PART_SHEET_SIZES) out->bytes[end - 1] ^= 1;
+    draw_otherwise(&call->sizes, target.call->outputs[i], *out);
   }
 }
 

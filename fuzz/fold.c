@@ -1,12 +1,6 @@
 /* lomvuze_fold */
 #include "target.h"
 
-static uint64_t run(const struct call *c) {
-  const struct sizes *s = &c->sizes;
-  return lomvuze_fold(s->m, s->n, s->k, s->l, s->challenge, OVER(c), BYTES(c->in[4]), BYTES(c->in[5]), BYTES(c->out[0]), BYTES(c->out[1]),
-                      BYTES(c->out[2]));
-}
-
 /* The openings of all items and the new one at two positions, in the order that verifying takes. */
 static struct buffer open_all(const struct call *c, struct buffer positions) {
   uint32_t k = c->sizes.k, l = c->sizes.l, t = 2;
@@ -45,12 +39,4 @@ static void compare(const struct call *c, uint64_t answer) {
   REQUIRE(LOMVUZE_VERDICT(verified) == LOMVUZE_ACCEPTED, "verifying refuses the fold");
 }
 
-const struct target target = {
-    "mnkla",
-    {POINTS, ENTRIES, ENTRIES, ENTRIES, ITEMS, WITNESSES},
-    {QUOTIENT, ITEM, WITNESS},
-    {LOMVUZE_SIZE, LOMVUZE_ELEMENT, LOMVUZE_POINTS, LOMVUZE_CIRCUIT, LOMVUZE_FIRST_INPUT, LOMVUZE_CHALLENGE, LOMVUZE_ROOT, LOMVUZE_CLAIM},
-    run,
-    compare,
-    NULL,
-};
+const struct target target = {&described_calls[CALL_FOLD], compare, NULL};

@@ -1,10 +1,6 @@
 /* lomvuze_interleave */
 #include "target.h"
 
-static uint64_t run(const struct call *c) {
-  return lomvuze_interleave(c->sizes.k, c->sizes.l, c->sizes.t, BYTES(c->in[0]), BYTES(c->out[0]));
-}
-
 /*
  * Each opening stands where the header says that verifying looks for it. Exchanging positions and items, where their counts permit it, gives
  * the openings back.
@@ -23,10 +19,10 @@ static void compare(const struct call *c, uint64_t answer) {
     }
   }
 
-  if (!permitted(s->t - 1, 'l', s->k) || !permitted(count, 't', s->k)) return;
+  if (!permitted(s->t - 1, NUMBER_L, s->k) || !permitted(count, NUMBER_T, s->k)) return;
   struct buffer back = scratch(opened.length);
   REQUIRE(lomvuze_interleave(s->k, s->t - 1, count, BYTES(openings), BYTES(back)) == LOMVUZE_ACCEPTED, "the way back is refused");
   REQUIRE(memcmp(opened.bytes, back.bytes, opened.length) == 0, "the way back gives others");
 }
 
-const struct target target = {"klt", {OPENED}, {ALL_OPENINGS}, {LOMVUZE_SIZE}, run, compare, NULL};
+const struct target target = {&described_calls[CALL_INTERLEAVE], compare, NULL};

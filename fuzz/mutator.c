@@ -43,41 +43,45 @@ static void refit(void) {
   }
 }
 
-static uint32_t permitted_number(char letter) {
+static uint32_t permitted_challenge(void) {
+  const uint32_t challenges[] = {input.sizes.l, LOMVUZE_P - 1, LOMVUZE_MAX_L + (uint32_t)below(LOMVUZE_P - LOMVUZE_MAX_L)};
+  return challenges[below(sizeof challenges / sizeof challenges[0])];
+}
+
+static uint32_t permitted_number(enum number number) {
   size_t k = LOMVUZE_IS_K(input.sizes.k) ? input.sizes.k : LOMVUZE_MAX_K;
-  switch (letter) {
-    case 'm': return (uint32_t)below(LOMVUZE_MAX_M + 1);
-    case 'n': return LOMVUZE_MIN_N + (uint32_t)below(LOMVUZE_MAX_N);
-    case 'k': return UINT32_C(2) << below(6);
-    case 'l': return LOMVUZE_MIN_L + (uint32_t)below(LOMVUZE_MAX_L);
-    case 't': return LOMVUZE_MIN_T + (uint32_t)below(4 * k);
-    default: {
-      const uint32_t challenges[] = {input.sizes.l, LOMVUZE_P - 1, LOMVUZE_MAX_L + (uint32_t)below(LOMVUZE_P - LOMVUZE_MAX_L)};
-      return challenges[below(sizeof challenges / sizeof challenges[0])];
-    }
+  switch (number) {
+    case NUMBER_M: return (uint32_t)below(LOMVUZE_MAX_M + 1);
+    case NUMBER_N: return LOMVUZE_MIN_N + (uint32_t)below(LOMVUZE_MAX_N);
+    case NUMBER_K: return UINT32_C(2) << below(6);
+    case NUMBER_L: return LOMVUZE_MIN_L + (uint32_t)below(LOMVUZE_MAX_L);
+    case NUMBER_T: return LOMVUZE_MIN_T + (uint32_t)below(4 * k);
+    case NUMBER_CHALLENGE: return permitted_challenge();
+    case NUMBER_END: break;
   }
+  return 0;
 }
 
 /* Makes numbers and lengths pass check 2 again. */
 static void mend(void) {
-  for (const char *letter = target.numbers; *letter != 0; letter++) {
-    uint32_t *number = number_of(&input.sizes, *letter);
-    if (!permitted(*number, *letter, input.sizes.k)) *number = permitted_number(*letter);
+  for (size_t i = 0; i < target.call->number_count; i++) {
+    enum number number = target.call->numbers[i];
+    uint32_t *value = number_of(number, &input.sizes);
+    if (!permitted(*value, number, input.sizes.k)) *value = permitted_number(number);
   }
   for (size_t i = 0; i < buffer_count(); i++) {
-    if (part_of(i) == SHEET) continue;
-    size_t entries = input.lengths[i] / LOMVUZE_ENTRIES_BYTES(1);
-    if (entries > LOMVUZE_MAX_ENTRIES) entries = LOMVUZE_MAX_ENTRIES;
-    input.more[i] = part_of(i) == ENTRIES ? (int32_t)LOMVUZE_ENTRIES_BYTES(entries) : 0;
+    if (part_of(i) == PART_SHEET) continue;
+    size_t each = length_of(part_of(i), &input.sizes), most = described_parts[part_of(i)].most, count = each > 0 ? input.lengths[i] / each : 0;
+    input.more[i] = kind_at(i) == UP_TO ? (int32_t)((count < most ? count : most) * each) : 0;
   }
   refit();
 }
 
 static void change_number(void) {
-  size_t letters = strlen(target.numbers);
-  if (letters == 0) return;
-  char letter = target.numbers[below(letters)];
-  uint32_t *number = number_of(&input.sizes, letter), *other = number_of(&input.sizes, target.numbers[below(letters)]), old = *number;
+  size_t count = target.call->number_count;
+  if (count == 0) return;
+  enum number which = target.call->numbers[below(count)];
+  uint32_t *number = number_of(which, &input.sizes), *other = number_of(target.call->numbers[below(count)], &input.sizes), old = *number;
   switch (below(6)) {
     case 0: *number = old + 1; break;
     case 1: *number = old - 1; break;
@@ -87,7 +91,7 @@ static void change_number(void) {
       *number = *other;
       *other = old;
       break;
-    default: *number = permitted_number(letter);
+    default: *number = permitted_number(which);
   }
   refit();
 }
@@ -104,11 +108,11 @@ static void change_length(void) {
   size_t i = below(buffer_count());
   static const int32_t steps[] = {1, -1, 4, -4, 12, -12};
   int32_t step = steps[below(sizeof steps / sizeof steps[0])];
-  if (part_of(i) == SHEET) return;
-  if (part_of(i) != ENTRIES) {
+  if (part_of(i) == PART_SHEET) return;
+  if (kind_at(i) != UP_TO) {
     input.more[i] = below(2) == 0 ? 0 : step;
   } else if (below(8) == 0) {
-    input.more[i] = (int32_t)(LOMVUZE_ENTRIES_BYTES(1) * (LOMVUZE_MAX_ENTRIES + below(2)));
+    input.more[i] = (int32_t)(length_of(part_of(i), &input.sizes) * (described_parts[part_of(i)].most + below(2)));
   } else {
     input.more[i] = (int32_t)input.lengths[i] + step;
   }
@@ -117,29 +121,25 @@ static void change_length(void) {
 
 /* ---- Contents */
 
-/* The bytes of one of the things that follow one another in a buffer. */
-static size_t stride(enum part part) {
+/* The bytes of one of the things that follow one another in a buffer; SIZE_MAX for sizes that are not permitted. */
+static size_t stride(size_t buffer) {
   const struct sizes *s = &input.sizes;
-  switch (part) {
-    case ENTRIES: return LOMVUZE_ENTRIES_BYTES(1);
-    case ITEM:
-    case ITEMS: return LOMVUZE_ITEM_BYTES(s->m, s->n);
-    case WITNESSES: return LOMVUZE_WITNESS_BYTES(s->k);
-    case OPENED:
-    case ALL_OPENINGS: return LOMVUZE_OPENING_BYTES(s->k);
-    default: return LOMVUZE_NUMBER_BYTES;
+  if (part_of(buffer) == PART_WITNESSES) return LOMVUZE_WITNESS_BYTES(s->k);
+  if (kind_at(buffer) == UP_TO) return length_of(part_of(buffer), s);
+  switch (layout_at(buffer)) {
+    case LAYOUT_ITEM: return LOMVUZE_ITEM_BYTES(s->m, s->n);
+    case LAYOUT_OPENING: return LOMVUZE_OPENING_BYTES(s->k);
+    case LAYOUT_NONE: break;
   }
+  return LOMVUZE_NUMBER_BYTES;
 }
 
-/* Where a thing has an element or a position: not in an entry's place, nor in a digest. */
-static size_t permitted_place(enum part part, size_t each) {
-  switch (part) {
-    case ENTRIES: return 2 * LOMVUZE_NUMBER_BYTES;
-    case ITEM:
-    case ITEMS: return below((each - LOMVUZE_DIGEST_BYTES) / LOMVUZE_NUMBER_BYTES) * LOMVUZE_NUMBER_BYTES;
-    case WITNESSES: return below(each / LOMVUZE_NUMBER_BYTES) * LOMVUZE_NUMBER_BYTES;
-    default: return 0;
-  }
+/* A place in a thing that has an element or a position: not in an entry's row or column, nor in a digest. */
+static uint8_t *permitted_place(size_t buffer, uint8_t *thing, size_t each) {
+  if (part_of(buffer) == PART_WITNESSES) return thing + below(each / LOMVUZE_NUMBER_BYTES) * LOMVUZE_NUMBER_BYTES;
+  if (part_of(buffer) == PART_ENTRIES) return thing + 2 * LOMVUZE_NUMBER_BYTES;
+  if (layout_at(buffer) == LAYOUT_ITEM) return item_number(&input.sizes, thing, below(item_count(&input.sizes)));
+  return thing;
 }
 
 /* Mostly by the target's own change: one of any bytes breaks the line rules. */
@@ -163,22 +163,22 @@ static void move(uint8_t *one, uint8_t *other, size_t each) {
 }
 
 static void change_contents(void) {
-  if (part_of(0) == SHEET) {
+  if (reads_sheet()) {
     change_sheet();
     return;
   }
-  size_t i = below(input_count()), length = input.lengths[i], each = stride(part_of(i));
-  if (part_of(i) == POINTS && input.points == BUILT_IN) input.points = LENT; /* those that stand there, and then one changed */
+  size_t i = below(input_count()), length = input.lengths[i], each = stride(i);
+  if (part_of(i) == PART_POINTS && input.points == BUILT_IN) input.points = LENT; /* those that stand there, and then one changed */
   if (each < LOMVUZE_NUMBER_BYTES || each > length) return;
   uint8_t *bytes = input.contents[i], *thing = bytes + below(length / each) * each, *other = bytes + below(length / each) * each;
   uint8_t *number = bytes + below(length / LOMVUZE_NUMBER_BYTES) * LOMVUZE_NUMBER_BYTES;
-  uint32_t limit = part_of(i) == POSITIONS && fits(&input) ? LOMVUZE_MAX_T(input.sizes.k) : LOMVUZE_P;
+  uint32_t limit = part_of(i) == PART_POSITIONS && fits(&input) ? LOMVUZE_MAX_T(input.sizes.k) : LOMVUZE_P;
   switch (below(8)) {
     case 0: bytes[below(length)] ^= (uint8_t)(1 << below(8)); break;
     case 1: put_number(number, number_at(number) + (below(2) == 0 ? 1 : UINT32_MAX)); break;
     case 2: put_number(number, edge()); break;
     case 3: move(thing, other, each); break;
-    default: put_number(thing + permitted_place(part_of(i), each), bits() % limit);
+    default: put_number(permitted_place(i, thing, each), bits() % limit);
   }
 }
 
@@ -206,6 +206,6 @@ size_t LLVMFuzzerCustomMutator(uint8_t *data, size_t size, size_t most, unsigned
       default: change_contents();
     }
   }
-  if (part_of(0) != SHEET && below(4) != 0) lead();
+  if (!reads_sheet() && below(4) != 0) lead();
   return pack(&input, data, most);
 }

@@ -1,10 +1,6 @@
 /* lomvuze_open */
 #include "target.h"
 
-static uint64_t run(const struct call *c) {
-  return lomvuze_open(c->sizes.k, c->sizes.t, BYTES(c->in[0]), BYTES(c->in[1]), BYTES(c->in[2]), BYTES(c->out[0]));
-}
-
 /*
  * Encoding refuses the same points and witnesses. A fold of one item is that item: verifying, which takes no points, accepts it with the openings
  * once for the item and once for the new one.
@@ -24,12 +20,4 @@ static void compare(const struct call *c, uint64_t answer) {
   REQUIRE(LOMVUZE_VERDICT(verified) == LOMVUZE_ACCEPTED, "verifying refuses the openings");
 }
 
-const struct target target = {
-    "kt",
-    {POINTS, WITNESS, POSITIONS},
-    {OPENINGS},
-    {LOMVUZE_SIZE, LOMVUZE_ELEMENT, LOMVUZE_POINTS, LOMVUZE_POSITION},
-    run,
-    compare,
-    NULL,
-};
+const struct target target = {&described_calls[CALL_OPEN], compare, NULL};

@@ -12,7 +12,7 @@ static uint32_t power(uint32_t a, uint32_t n) {
   return result;
 }
 
-bool takes_points(void) { return target.inputs[0] == POINTS; }
+bool takes_points(void) { return part_of(0) == PART_POINTS; }
 
 /* Point i is g^i, where g = 31^((p - 1) / 4k). */
 void put_built_in(uint8_t *bytes, size_t length, uint32_t k) {

@@ -1,11 +1,6 @@
 /* lomvuze_quotient */
 #include "target.h"
 
-static uint64_t run(const struct call *c) {
-  const struct sizes *s = &c->sizes;
-  return lomvuze_quotient(s->m, s->n, s->k, s->l, OVER(c), BYTES(c->in[4]), BYTES(c->in[5]), BYTES(c->out[0]));
-}
-
 /* Folding at the least challenge that is permitted gives the same answer and quotient. */
 static void compare(const struct call *c, uint64_t answer) {
   const struct sizes *s = &c->sizes;
@@ -18,12 +13,4 @@ static void compare(const struct call *c, uint64_t answer) {
   REQUIRE(memcmp(quotient.bytes, c->out[0].bytes, quotient.length) == 0, "folding has another quotient");
 }
 
-const struct target target = {
-    "mnkl",
-    {POINTS, ENTRIES, ENTRIES, ENTRIES, ITEMS, WITNESSES},
-    {QUOTIENT},
-    {LOMVUZE_SIZE, LOMVUZE_ELEMENT, LOMVUZE_POINTS, LOMVUZE_CIRCUIT, LOMVUZE_FIRST_INPUT, LOMVUZE_ROOT, LOMVUZE_CLAIM},
-    run,
-    compare,
-    NULL,
-};
+const struct target target = {&described_calls[CALL_QUOTIENT], compare, NULL};

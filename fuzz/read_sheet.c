@@ -4,21 +4,17 @@
 #include <inttypes.h>
 #include <stdio.h>
 
-static uint64_t run(const struct call *c) {
-  return lomvuze_read_sheet(BYTES(c->in[0]), BYTES(c->out[0]), BYTES(c->out[1]), BYTES(c->out[2]), BYTES(c->out[3]), BYTES(c->out[4]),
-                            (uint32_t *)(void *)c->out[5].bytes);
-}
-
 /* The answer with buffers of the greatest lengths is the same. With one of them a byte shorter, check 2 fails, unless check 1 does. */
-static void compare_lengths(const struct call *c, uint32_t answer) {
+static void compare_lengths(const struct call *c, uint64_t answer) {
   struct call again = *c;
   for (size_t i = 0; i < 3; i++) again.out[i] = scratch(LOMVUZE_SHEET_ENTRIES_BYTES);
   again.out[3] = scratch(LOMVUZE_SHEET_ITEMS_BYTES);
   again.out[4] = scratch(LOMVUZE_SHEET_WITNESSES_BYTES);
-  REQUIRE(run(&again) == answer, "buffers of the greatest lengths have another answer");
+  REQUIRE(run_read_sheet(&again) == answer, "buffers of the greatest lengths have another answer");
   for (size_t i = 0; i < 5; i++) {
     again.out[i].length--;
-    REQUIRE(run(&again) == (answer == LOMVUZE_SHEET ? LOMVUZE_SHEET : LOMVUZE_SIZE), "a buffer that is too short is not refused by its check");
+    uint32_t expected = answer == LOMVUZE_SHEET ? LOMVUZE_SHEET : LOMVUZE_SIZE;
+    REQUIRE(run_read_sheet(&again) == expected, "a buffer that is too short is not refused by its check");
     again.out[i].length++;
   }
 }
@@ -28,14 +24,22 @@ static void compare_lengths(const struct call *c, uint32_t answer) {
 static char text[LONGEST];
 static size_t length;
 
-static void put_line(const char *keyword, struct buffer numbers, struct buffer root) {
-  length += (size_t)sprintf(text + length, "%s", keyword);
-  for (size_t i = 0; i < numbers.length; i += LOMVUZE_NUMBER_BYTES) {
-    length += (size_t)sprintf(text + length, "\t%" PRIu32, number_at(numbers.bytes + i));
-  }
-  if (root.length > 0) text[length++] = '\t';
-  for (size_t i = 0; i < root.length; i++) length += (size_t)sprintf(text + length, "%02x", root.bytes[i]);
-  text[length++] = '\n';
+static void put_word(const char *word) { length += (size_t)sprintf(text + length, "%s", word); }
+
+static void put_field(uint32_t number) { length += (size_t)sprintf(text + length, "\t%" PRIu32, number); }
+
+static void put_line(const char *keyword, struct buffer numbers) {
+  put_word(keyword);
+  for (size_t i = 0; i < numbers.length; i += LOMVUZE_NUMBER_BYTES) put_field(number_at(numbers.bytes + i));
+  put_word("\n");
+}
+
+static void put_item(const struct sizes *s, uint8_t *item) {
+  put_word("item");
+  for (size_t j = 0; j < item_count(s); j++) put_field(number_at(item_number(s, item, j)));
+  put_word("\t");
+  for (size_t i = 0; i < LOMVUZE_DIGEST_BYTES; i++) length += (size_t)sprintf(text + length, "%02x", item[LOMVUZE_ITEM_ROOT(s->m, s->n) + i]);
+  put_word("\n");
 }
 
 /*
@@ -49,28 +53,29 @@ static void compare(const struct call *c, uint64_t answer) {
   const uint32_t *sizes = sizes_read(c), m = sizes[0], n = sizes[1], k = sizes[2], pairs = sizes[6];
   struct buffer sheet = c->in[0];
   REQUIRE(sheet.length <= LOMVUZE_MAX_SHEET, "a sheet that is too long is accepted");
-  REQUIRE(permitted(m, 'm', k) && permitted(n, 'n', k) && permitted(k, 'k', k), "a size that is not permitted");
+  REQUIRE(permitted(m, NUMBER_M, k) && permitted(n, NUMBER_N, k) && permitted(k, NUMBER_K, k), "a size that is not permitted");
   REQUIRE(1 <= pairs && pairs <= LOMVUZE_MAX_PAIRS, "a count of pairs that is not permitted");
 
   struct buffer none = scratch(0), lists[3], end = scratch(LOMVUZE_NUMBER_BYTES);
+  const struct sizes of_items = {.m = m, .n = n};
   put_number(end.bytes, pairs);
   length = 0;
-  put_line("size", slice(c->out[5], 0, 3 * LOMVUZE_NUMBER_BYTES), none);
+  put_line("size", slice(c->out[5], 0, 3 * LOMVUZE_NUMBER_BYTES));
   for (size_t i = 0; i < 3; i++) {
     lists[i] = slice(c->out[i], 0, written(c, i));
     for (uint32_t j = 0; j < sizes[3 + i]; j++) {
-      put_line((const char *[]){"a", "b", "c"}[i], slice(lists[i], LOMVUZE_ENTRIES_BYTES(j), LOMVUZE_ENTRIES_BYTES(1)), none);
+      put_line((const char *[]){"a", "b", "c"}[i], slice(lists[i], LOMVUZE_ENTRIES_BYTES(j), LOMVUZE_ENTRIES_BYTES(1)));
     }
   }
   for (uint32_t i = 0; i < pairs; i++) {
     struct buffer item = slice(c->out[3], LOMVUZE_ITEMS_BYTES(m, n, i), LOMVUZE_ITEM_BYTES(m, n));
     struct buffer wit = slice(c->out[4], LOMVUZE_WITNESSES_BYTES(k, i), LOMVUZE_WITNESS_BYTES(k));
-    put_line("item", slice(item, 0, LOMVUZE_ITEM_ROOT(m, n)), slice(item, LOMVUZE_ITEM_ROOT(m, n), LOMVUZE_DIGEST_BYTES));
-    put_line("wit", wit, none);
+    put_item(&of_items, item.bytes);
+    put_line("wit", wit);
     uint32_t decided = lomvuze_decide(m, n, k, BYTES(none), BYTES(lists[0]), BYTES(lists[1]), BYTES(lists[2]), BYTES(item), BYTES(wit));
     REQUIRE(decided == LOMVUZE_ACCEPTED || decided == LOMVUZE_ROOT || decided == LOMVUZE_CLAIM, "deciding refuses what was read");
   }
-  put_line("end", end, none);
+  put_line("end", end);
   REQUIRE((sheet.length == length || sheet.length == length - 1) && memcmp(sheet.bytes, text, sheet.length) == 0, "the sheet says otherwise");
 }
 
@@ -138,12 +143,4 @@ static void change(struct input *input, size_t (*below)(size_t)) {
   }
 }
 
-const struct target target = {
-    "",
-    {SHEET},
-    {SHEET_ENTRIES, SHEET_ENTRIES, SHEET_ENTRIES, SHEET_ITEMS, SHEET_WITNESSES, SHEET_SIZES},
-    {LOMVUZE_SHEET, LOMVUZE_SIZE, LOMVUZE_ELEMENT, LOMVUZE_CIRCUIT, LOMVUZE_FIRST_INPUT},
-    run,
-    compare,
-    change,
-};
+const struct target target = {&described_calls[CALL_READ_SHEET], compare, change};

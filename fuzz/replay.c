@@ -41,7 +41,7 @@ int main(int argc, char **argv) {
     }
   }
   bool missing = every && !given[LOMVUZE_ACCEPTED];
-  for (const uint32_t *check = target.checks; every && *check != 0; check++) missing = missing || !given[*check];
+  for (const uint32_t *check = target.call->checks; every && *check != 0; check++) missing = missing || !given[*check];
   if (missing) fprintf(stderr, "replay: a verdict of the call is given for no file\n");
   return missing ? 1 : 0;
 }

@@ -1,7 +1,7 @@
 #!/usr/bin/env bash
 # Runs each fuzz target once on each of its seeds, without a fuzzer, and prints the call's verdict: it is the number that the seed's name starts
-# with, and every verdict of the call is given; a call that takes points has seeds 0-built-in and 0-lent. Then the controls: the targets must find
-# the faults of fault.c. Needs cc.
+# with, and every verdict of the call is given; a call that takes points has seeds 0-built-in and 0-lent. Each call of rust/calls/calls.txt has a target
+# and seeds. Then the controls: the targets must find the faults of fault.c. Needs cc and awk.
 # LOMVUZE_STATICLIB names another folder with libverdicts.a in it; nothing is built there.
 set -euo pipefail
 cd "$(dirname "$0")/.."
@@ -13,25 +13,37 @@ folder=target/fuzz/replay
 mkdir -p "$folder"
 fail() { printf 'FAILED: %s\n' "$1"; exit 1; }
 
-# A program for each call that the header declares, without the faults and with them.
-calls=$(sed -n 's/^uint[0-9]*_t lomvuze_\([a-z_]*\)(.*/\1/p' include/lomvuze.h)
-flags=(-std=c11 -O1 -g -Wall -Wextra -Wpedantic -Werror -Iinclude)
+# ---- What rust/calls/calls.txt says of each call
+bash make/calls.sh header >"$folder/calls.h"
+calls=$(bash make/calls.sh names)
+buffers=$(bash make/calls.sh buffers)
+checks=$(bash make/calls.sh checks)
+takes_points() { grep -q "^$1 reads [a-z_]* points$" <<<"$buffers"; }
+writes() { grep -q "^$1 writes " <<<"$buffers"; }
+runs() { grep -q "^$1 .*\b$2\b" <<<"$checks"; }          # runs CALL CHECK
+behind() { grep -q "^$1 .*\b$2 .*\b$3\b" <<<"$checks"; } # behind CALL CHECK OTHER: the call runs the other check after this one
+for call in $calls; do
+    [ -e "fuzz/$call.c" ] || fail "there is no target fuzz/$call.c for lomvuze_$call: see fuzz/README.md"
+    compgen -G "fuzz/corpus/$call/*" >/dev/null || fail "there is no seed in fuzz/corpus/$call: see fuzz/README.md"
+done
+
+# ---- A program for each call, without the faults and with them
+flags=(-std=c11 -O1 -g -Wall -Wextra -Wpedantic -Werror -Iinclude -I"$folder")
 checked=(-fsanitize=address,undefined -fno-sanitize-recover=undefined)
-for part in target input points leading drawn memory replay $calls; do
+for part in target input points items drawn memory replay $calls; do
     cc "${flags[@]}" "${checked[@]}" -c -o "$folder/$part.o" "fuzz/$part.c"
 done
 cc "${flags[@]}" -c -o "$folder/fault.o" fuzz/fault.c
 for call in $calls; do
-    objects=("$folder"/{"$call",target,input,points,leading,drawn,memory,replay}.o)
+    objects=("$folder"/{"$call",target,input,points,items,drawn,memory,replay}.o)
     cc "${checked[@]}" -o "$folder/$call" "${objects[@]}" "$library"
     cc "${checked[@]}" -o "$folder/$call.faulty" "${objects[@]}" "$folder/fault.o" "$library"
 done
 
 # ---- The seeds
-declaration() { sed -n "/^uint[0-9]*_t lomvuze_$1(/,/;/p" include/lomvuze.h; }
 seeds=0
 for call in $calls; do
-    if declaration "$call" | grep points_len >/dev/null; then
+    if takes_points "$call"; then
         for seed in 0-built-in 0-lent; do [ -e "fuzz/corpus/$call/$seed" ] || fail "$call has no seed $seed"; done
     fi
     "$folder/$call" --every fuzz/corpus/"$call"/* >"$folder/$call.verdicts" || fail "$call"
@@ -73,10 +85,13 @@ control_drawing() {
 controls=0
 for call in $calls; do
     LOMVUZE_FAULT='' "$folder/$call.faulty" fuzz/corpus/"$call"/* >/dev/null || fail "$call: found without a fault"
-    writes=$(declaration "$call" | grep '_out_len' || true)
+    writes=
+    ! writes "$call" || writes=yes
     for seed in fuzz/corpus/"$call"/*; do
+        name=${seed##*/}
+        verdict=${name%%-*}
         accepted=
-        [[ ${seed##*/} != 0* ]] || accepted=yes
+        [ "$verdict" != 0 ] || accepted=yes
         control "$call" "$seed" reads-behind-input 'AddressSanitizer: SEGV'
         control "$call" "$seed" reads-before-input 'AddressSanitizer: SEGV'
         control "$call" "$seed" writes-input 'FOUND: an input buffer was changed'
@@ -89,24 +104,26 @@ for call in $calls; do
             control "$call" "$seed" answers-in-turns 'FOUND: another answer'
         fi
         # Where 13 is the last check, overlooking it is to accept.
-        if [[ $call != read_sheet && $call != draw_* ]] && compgen -G "fuzz/corpus/$call/13*" >/dev/null; then
-            case ${seed##*/} in
-                13*) control "$call" "$seed" misses-first-inputs 'FOUND: check 13' ;;
-                [5-9]* | 1[01]*) control "$call" "$seed" refuses-first-inputs 'FOUND: check 13' ;;
-            esac
+        if behind "$call" 13 '[0-9]*'; then
+            if [ "$verdict" = 13 ]; then
+                control "$call" "$seed" misses-first-inputs 'FOUND: check 13'
+            elif behind "$call" 13 "$verdict"; then
+                control "$call" "$seed" refuses-first-inputs 'FOUND: check 13'
+            fi
         fi
-        if compgen -G "fuzz/corpus/$call/8*" >/dev/null; then # the call counts blocks
-            case ${seed##*/} in
-                0* | [89]*) faults='counts-an-opening-more counts-a-block-less counts-no-blocks' ;;
-                *) faults=counts-what-is-not-hashed ;;
-            esac
-            case ${seed##*/} in
+        if runs "$call" 8; then # the call counts blocks
+            if [[ $verdict = [08] ]] || behind "$call" 8 "$verdict"; then
+                faults='counts-an-opening-more counts-a-block-less counts-no-blocks'
+            else
+                faults=counts-what-is-not-hashed
+            fi
+            case $name in
                 8-last*) ;; # where the last opening fails, all are hashed
                 8*) faults+=' counts-all-openings' ;;
             esac
             for fault in $faults; do control "$call" "$seed" $fault 'FOUND: blocks'; done
         fi
-        if [[ ${seed##*/} = 0-built-in ]]; then
+        if [[ $name = 0-built-in ]]; then
             control "$call" "$seed" "$([ "$writes" ] && echo writes-another-byte || echo refuses)" 'FOUND: the built-in points'
         fi
         if [ "$writes" ]; then

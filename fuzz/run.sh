@@ -3,9 +3,9 @@
 #
 #   fuzz/run.sh [SECONDS [CALL...]]
 #
-# By default each call that the header declares gets 60 seconds. Needs clang with libFuzzer and AddressSanitizer, and cargo, by which honest calls of
+# By default each call of rust/calls/calls.txt gets 60 seconds. Needs clang with libFuzzer and AddressSanitizer, and cargo, by which honest calls of
 # any size are added to the seeds. LOMVUZE_STATICLIB names another folder with libverdicts.a in it; nothing is built there.
-# Exit status: 0 where nothing is found.
+# Exit status: 0 where nothing is found, 1 where something is, 2 for a call that is none.
 set -euo pipefail
 cd "$(dirname "$0")/.."
 if [ -z "${LOMVUZE_STATICLIB:-}" ]; then
@@ -16,19 +16,24 @@ folder=target/fuzz
 mkdir -p "$folder"
 seconds=${1:-60}
 calls=("${@:2}")
-[ "${#calls[@]}" -gt 0 ] || mapfile -t calls < <(sed -n 's/^uint[0-9]*_t lomvuze_\([a-z_]*\)(.*/\1/p' include/lomvuze.h)
+bash make/calls.sh header >"$folder/calls.h"
+names=$(bash make/calls.sh names)
+[ "${#calls[@]}" -gt 0 ] || mapfile -t calls <<<"$names"
+for call in "${calls[@]}"; do
+    [[ $'\n'$names$'\n' == *$'\n'"$call"$'\n'* ]] || { printf 'fuzz/run.sh: there is no call %s; the calls are: %s\n' "$call" "${names//$'\n'/ }" >&2; exit 2; }
+done
 
-cargo run --quiet --release --offline --manifest-path rust/Cargo.toml -p lomvuze-samples --example corpus -- "$folder/seeds" 100
+cargo run --quiet --release --offline --manifest-path rust/Cargo.toml -p lomvuze-stored --bin corpus -- "$folder/seeds" 100
 
 # Coverage of the targets themselves would say nothing about the library, so they have none; target.c tells libFuzzer what to keep.
 checked=(-fsanitize=address,undefined -fno-sanitize-recover=undefined)
-for part in target input points leading drawn memory mutator "${calls[@]}"; do
-    clang -std=c11 -O1 -g -Wall -Wextra -Wpedantic -Werror -Iinclude "${checked[@]}" -c -o "$folder/$part.o" "fuzz/$part.c"
+for part in target input points items drawn memory mutator "${calls[@]}"; do
+    clang -std=c11 -O1 -g -Wall -Wextra -Wpedantic -Werror -Iinclude -I"$folder" "${checked[@]}" -c -o "$folder/$part.o" "fuzz/$part.c"
 done
 
 status=0
 for call in "${calls[@]}"; do
-    objects=("$folder"/{"$call",target,input,points,leading,drawn,memory,mutator}.o)
+    objects=("$folder"/{"$call",target,input,points,items,drawn,memory,mutator}.o)
     clang "${checked[@]}" -fsanitize=fuzzer -o "$folder/$call" "${objects[@]}" "$library"
     log="$folder/$call.log"
     seeds=("fuzz/corpus/$call" "$folder/seeds/$call")

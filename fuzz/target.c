@@ -71,24 +71,24 @@ const uint32_t *sizes_read(const struct call *call) { return (const uint32_t *)(
 size_t written(const struct call *call, size_t output) {
   if (!reads_sheet()) return call->out[output].length;
   const uint32_t *sizes = sizes_read(call);
-  switch (target.outputs[output]) {
-    case SHEET_ENTRIES: return LOMVUZE_ENTRIES_BYTES(sizes[3 + output]);
-    case SHEET_ITEMS: return LOMVUZE_ITEMS_BYTES(sizes[0], sizes[1], sizes[6]);
-    case SHEET_WITNESSES: return LOMVUZE_WITNESSES_BYTES(sizes[2], sizes[6]);
+  switch (target.call->outputs[output]) {
+    case PART_SHEET_ENTRIES: return LOMVUZE_ENTRIES_BYTES(sizes[3 + output]);
+    case PART_SHEET_ITEMS: return LOMVUZE_ITEMS_BYTES(sizes[0], sizes[1], sizes[6]);
+    case PART_SHEET_WITNESSES: return LOMVUZE_WITNESSES_BYTES(sizes[2], sizes[6]);
     default: return call->out[output].length;
   }
 }
 
 static bool allowed(uint32_t verdict) {
   if (verdict == LOMVUZE_ACCEPTED) return true;
-  for (const uint32_t *check = target.checks; *check != 0; check++) {
+  for (const uint32_t *check = target.call->checks; *check != 0; check++) {
     if (verdict == *check) return true;
   }
   return false;
 }
 
 bool comes_before(uint32_t one, uint32_t other) {
-  for (const uint32_t *check = target.checks; *check != 0 && *check != other; check++) {
+  for (const uint32_t *check = target.call->checks; *check != 0 && *check != other; check++) {
     if (*check == one) return true;
   }
   return false;
@@ -102,7 +102,7 @@ static bool filled(struct buffer buffer, uint8_t with) {
 }
 
 static uint64_t answer_to(const struct call *call) {
-  uint64_t answer = target.run(call);
+  uint64_t answer = target.call->run(call);
   return fault ? fault(call, answer) : answer;
 }
 
@@ -142,8 +142,8 @@ static void check_written(const struct call *first, const struct call *second, s
 /* Makes the call with one buffer after the other longer by 2^32 bytes. A sheet is too long then, or it breaks the line rules anyway. */
 static void run_far(struct call *call, uint32_t verdict) {
   for (size_t i = 0; i < buffer_count(); i++) {
-    if (part_of(i) == SHEET_SIZES) continue;
-    uint32_t check = verdict == LOMVUZE_SHEET || part_of(i) == SHEET ? LOMVUZE_SHEET : LOMVUZE_SIZE;
+    if (kind_at(i) == NUMBERS) continue;
+    uint32_t check = verdict == LOMVUZE_SHEET || part_of(i) == PART_SHEET ? LOMVUZE_SHEET : LOMVUZE_SIZE;
     struct buffer *buffer = i < input_count() ? &call->in[i] : &call->out[i - input_count()], old = *buffer;
     *buffer = far_longer(old);
     REQUIRE(answer_to(call) == check, "a length of 2^32 more is not refused by its check");
@@ -156,7 +156,7 @@ static void run_without_points(const struct call *call, uint32_t verdict) {
   struct call again = *call;
   again.in[0] = scratch(0);
   for (size_t i = 0; i < output_count(); i++) again.out[i] = scratch(call->out[i].length);
-  REQUIRE(target.run(&again) == verdict, "the built-in points have another verdict than none");
+  REQUIRE(target.call->run(&again) == verdict, "the built-in points have another verdict than none");
   for (size_t i = 0; verdict == LOMVUZE_ACCEPTED && i < output_count(); i++) {
     struct buffer one = call->out[i], other = again.out[i];
     REQUIRE(one.length == 0 || memcmp(one.bytes, other.bytes, one.length) == 0, "the built-in points give other bytes than none");
@@ -176,7 +176,7 @@ static void run_without_one(const struct call *call, enum end end, uint32_t verd
   uint8_t *one = leading_one(call, end);
   if (one == NULL) return;
   *one ^= 1;
-  REQUIRE(target.run(call) == verdict, "check 13 is not in its place");
+  REQUIRE(target.call->run(call) == verdict, "check 13 is not in its place");
   *one ^= 1;
 }
 
@@ -213,7 +213,7 @@ int LLVMFuzzerTestOneInput(const uint8_t *data, size_t size) {
   }
   if (verdict == LOMVUZE_ACCEPTED && reads_sheet()) {
     const uint32_t *sizes = sizes_read(&second);
-    input.sizes = (struct sizes){sizes[0], sizes[1], sizes[2], 1 + (sizes[6] - 1) % LOMVUZE_MAX_L, 1, 1};
+    input.sizes = (struct sizes){.m = sizes[0], .n = sizes[1], .k = sizes[2], .l = 1 + (sizes[6] - 1) % LOMVUZE_MAX_L};
   }
   note(&input.sizes, input.points, verdict);
   return 0;

@@ -1,7 +1,8 @@
 /*
- * Fuzz targets: each tries one call of include/lomvuze.h on inputs that a fuzzer makes. The file of a call, such as verify.c, defines
- * `target`; target.c runs the call and checks what it did, input.c reads inputs, points.c has what is known of points, leading.c of first inputs,
- * drawn.c of what is drawn, memory.c the buffers, and mutator.c changes inputs.
+ * Fuzz targets: each tries one call of include/lomvuze.h on inputs that a fuzzer makes. calls.h, which make/calls.sh writes, says what a call takes,
+ * reads, writes and checks. The file of a call, such as verify.c, defines `target`, with what is particular to it; target.c runs the call and checks
+ * what it did, input.c reads inputs, points.c has what is known of points, items.c of items and first inputs, drawn.c of what is drawn, memory.c the
+ * buffers, and mutator.c changes inputs.
  *
  * THE INPUT
  *
@@ -25,49 +26,10 @@
 #include <stdbool.h>
 #include <string.h>
 
-#include "lomvuze.h"
-
-enum { MOST_NUMBERS = 6, MOST_INPUTS = 7, MOST_OUTPUTS = 6, MOST_BUFFERS = MOST_INPUTS + MOST_OUTPUTS, MOST_CHECKS = 8 };
+#include "calls.h"
 
 /* No buffer is longer. */
 enum { LONGEST = 1 << 20 };
-
-/* What a buffer holds. */
-enum part {
-  END,
-  POINTS, /* the first input of its call */
-  ENTRIES,
-  R,
-  X,
-  WITNESS,
-  WITNESSES,
-  CODEWORD,
-  ROOT,
-  ITEM,
-  ITEMS,
-  QUOTIENT,
-  POSITIONS,
-  OPENINGS,     /* of one witness */
-  OPENED,       /* of all items and the new one, witness by witness */
-  ALL_OPENINGS, /* of all items and the new one, position by position */
-  SEED,
-  CHALLENGE,    /* that was drawn */
-  SHEET,        /* the only input of its call */
-  SHEET_ENTRIES,
-  SHEET_ITEMS,
-  SHEET_WITNESSES,
-  SHEET_SIZES, /* the last output */
-};
-
-/* Those that the call does not take have permitted values. */
-struct sizes {
-  uint32_t m, n, k, l, t, challenge;
-};
-
-struct buffer {
-  uint8_t *bytes;
-  size_t length;
-};
 
 /* A buffer as two arguments. */
 #define BYTES(buffer) (buffer).bytes, (buffer).length
@@ -75,20 +37,12 @@ struct buffer {
 /* Points and circuit of a call, its first four inputs, as arguments. */
 #define OVER(call) BYTES((call)->in[0]), BYTES((call)->in[1]), BYTES((call)->in[2]), BYTES((call)->in[3])
 
-struct call {
-  struct sizes sizes;
-  struct buffer in[MOST_INPUTS], out[MOST_OUTPUTS];
-};
-
 /* ---- What the file of a call defines */
 
 struct input;
 
 struct target {
-  const char *numbers;                                          /* their letters, in the call's order; a is the challenge */
-  enum part inputs[MOST_INPUTS + 1], outputs[MOST_OUTPUTS + 1]; /* in the call's order; END follows */
-  uint32_t checks[MOST_CHECKS + 1];                             /* that the call runs, in its order; 0 follows */
-  uint64_t (*run)(const struct call *call);                     /* makes the call */
+  const struct described_call *call;
   void (*compare)(const struct call *call, uint64_t answer);    /* compares it with other calls, after it; not for LOMVUZE_SIZE */
   void (*change)(struct input *input, size_t (*below)(size_t)); /* a change of the mutator for this call alone; NULL for none */
 };
@@ -104,7 +58,7 @@ void found(const char *what);
 /* A buffer of zeros that ends where memory does. It is there until the comparison ends. */
 struct buffer scratch(size_t length);
 
-/* What a call that accepted a sheet wrote to SHEET_SIZES: m, n, k, the counts of entries of A, B and C, the count of pairs. */
+/* What a call that accepted a sheet wrote as its sizes: m, n, k, the counts of entries of A, B and C, the count of pairs. */
 const uint32_t *sizes_read(const struct call *call);
 
 /* How many bytes of an output buffer a call that accepts writes: all, but from a sheet as many as sizes and counts say. */
@@ -118,6 +72,10 @@ uint32_t number_at(const uint8_t *bytes);
 
 /* Whether all numbers of a buffer are below p. */
 bool below_p(struct buffer numbers);
+
+/* The numbers of an item of permitted sizes: how many they are, and number j: e, then r, then x. */
+size_t item_count(const struct sizes *sizes);
+uint8_t *item_number(const struct sizes *sizes, uint8_t *item, size_t j);
 
 /* Whether the call tests one check before the other. */
 bool comes_before(uint32_t one, uint32_t other);
@@ -171,10 +129,13 @@ size_t pack(const struct input *input, uint8_t *data, size_t most);
 /* Works out the lengths. */
 void cut(struct input *input);
 
+/* The buffers of the call, inputs first. */
 size_t input_count(void);
 size_t output_count(void);
 size_t buffer_count(void);
 enum part part_of(size_t buffer);
+enum kind kind_at(size_t buffer);
+enum layout layout_at(size_t buffer);
 bool reads_sheet(void);
 bool takes_points(void);
 
@@ -194,12 +155,8 @@ uint8_t *leading_one(const struct call *call, enum end end);
 /* Where they stand in an input, and how many they are: none where the call has none, or sizes and lengths do not pass check 2. */
 size_t leading_places(struct input *input, uint8_t *at[LOMVUZE_MAX_PAIRS]);
 
-/* log2(4k), from the last bits of k alone: those of 2^30 more are the same. */
-uint32_t depth_of(uint32_t k);
-
-/* A number by its letter, and whether check 2 permits it. */
-uint32_t *number_of(struct sizes *sizes, char letter);
-bool permitted(uint32_t number, char letter, uint32_t k);
+/* Whether check 2 permits a value of a number. */
+bool permitted(uint32_t value, enum number number, uint32_t k);
 
 /* Whether the call passes check 2. */
 bool fits(const struct input *input);

@@ -1,12 +1,6 @@
 /* lomvuze_verify */
 #include "target.h"
 
-static uint64_t run(const struct call *c) {
-  const struct sizes *s = &c->sizes;
-  return lomvuze_verify(s->m, s->n, s->k, s->l, s->t, s->challenge, BYTES(c->in[0]), BYTES(c->in[1]), BYTES(c->in[2]), BYTES(c->in[3]),
-                        BYTES(c->in[4]));
-}
-
 /* ---- Blocks */
 
 /* Those of a message: the byte 0x80 and eight bytes of length follow it, and zeros between them fill its last block (FIPS 180-4, 5.1.1). */
@@ -30,7 +24,7 @@ static size_t first_failing(const struct call *c) {
   const struct sizes *s = &c->sizes;
   size_t length = LOMVUZE_OPENING_BYTES(s->k), each = s->l + 1, all = s->t * each;
   struct buffer item = scratch(LOMVUZE_ITEM_BYTES(0, 1)), none = scratch(0), twice = scratch(2 * length);
-  put_number(item.bytes + LOMVUZE_NUMBER_BYTES, 1);
+  put_number(item.bytes + LOMVUZE_ITEM_X(0), 1);
   for (size_t j = 0; j < all; j++) {
     struct buffer position = slice(c->in[1], LOMVUZE_POSITIONS_BYTES(j / each), LOMVUZE_POSITIONS_BYTES(1));
     memcpy(item.bytes + LOMVUZE_ITEM_ROOT(0, 1), root_of(c, j % each), LOMVUZE_DIGEST_BYTES);
@@ -60,7 +54,7 @@ static void check_blocks(const struct call *c, uint64_t answer) {
   uint8_t *last = c->in[4].bytes + (changed + 1) * length - 1;
   *last ^= 1;
   uint64_t expected = changed < failing ? 64 * (changed + 1) * each + LOMVUZE_OPENING : answer;
-  REQUIRE(run(c) == expected, "blocks do not end with the first opening that fails");
+  REQUIRE(run_verify(c) == expected, "blocks do not end with the first opening that fails");
   *last ^= 1;
 }
 
@@ -84,11 +78,11 @@ static void compare(const struct call *c, uint64_t answer) {
 
   size_t at = s->challenge % c->in[4].length;
   c->in[4].bytes[at] ^= 1;
-  REQUIRE(LOMVUZE_VERDICT(run(c)) != LOMVUZE_ACCEPTED, "another opening is accepted");
+  REQUIRE(LOMVUZE_VERDICT(run_verify(c)) != LOMVUZE_ACCEPTED, "another opening is accepted");
   c->in[4].bytes[at] ^= 1;
-  uint8_t *first = c->in[3].bytes + LOMVUZE_NUMBER_BYTES + LOMVUZE_R_BYTES(s->m);
+  uint8_t *first = c->in[3].bytes + LOMVUZE_ITEM_X(s->m);
   put_number(first, 0);
-  REQUIRE(run(c) == LOMVUZE_NEW_ITEM, "another first input of the new item is not refused by its check");
+  REQUIRE(run_verify(c) == LOMVUZE_NEW_ITEM, "another first input of the new item is not refused by its check");
   put_number(first, 1);
 }
 
@@ -104,12 +98,4 @@ static void change(struct input *input, size_t (*below)(size_t)) {
   }
 }
 
-const struct target target = {
-    "mnklta",
-    {ITEMS, POSITIONS, QUOTIENT, ITEM, ALL_OPENINGS},
-    {END},
-    {LOMVUZE_SIZE, LOMVUZE_ELEMENT, LOMVUZE_FIRST_INPUT, LOMVUZE_CHALLENGE, LOMVUZE_POSITION, LOMVUZE_NEW_ITEM, LOMVUZE_OPENING, LOMVUZE_COMBINATION},
-    run,
-    compare,
-    change,
-};
+const struct target target = {&described_calls[CALL_VERIFY], compare, change};

@@ -75,69 +75,69 @@ class out {
 /* The built-in points: an empty buffer. */
 inline in built_in_points() noexcept { return in(); }
 
-inline uint32_t encode(uint32_t k, in points, in w, out code, out root) noexcept {
+LOMVUZE_CHECKED inline uint32_t encode(uint32_t k, in points, in w, out code, out root) noexcept {
   return lomvuze_encode(k, points.data(), points.size(), w.data(), w.size(), code.data(), code.size(), root.data(),
                         root.size());
 }
 
-inline uint32_t cast(uint32_t m, uint32_t n, uint32_t k, in points, in a, in b, in c, in r, in x, in w,
+LOMVUZE_CHECKED inline uint32_t cast(uint32_t m, uint32_t n, uint32_t k, in points, in a, in b, in c, in r, in x, in w,
                      out item) noexcept {
   return lomvuze_cast(m, n, k, points.data(), points.size(), a.data(), a.size(), b.data(), b.size(), c.data(),
                       c.size(), r.data(), r.size(), x.data(), x.size(), w.data(), w.size(), item.data(), item.size());
 }
 
-inline uint32_t quotient(uint32_t m, uint32_t n, uint32_t k, uint32_t l, in points, in a, in b, in c, in items,
+LOMVUZE_CHECKED inline uint32_t quotient(uint32_t m, uint32_t n, uint32_t k, uint32_t l, in points, in a, in b, in c, in items,
                          in wits, out quotient) noexcept {
   return lomvuze_quotient(m, n, k, l, points.data(), points.size(), a.data(), a.size(), b.data(), b.size(), c.data(),
                           c.size(), items.data(), items.size(), wits.data(), wits.size(), quotient.data(),
                           quotient.size());
 }
 
-inline uint32_t fold(uint32_t m, uint32_t n, uint32_t k, uint32_t l, uint32_t challenge, in points, in a, in b, in c,
+LOMVUZE_CHECKED inline uint32_t fold(uint32_t m, uint32_t n, uint32_t k, uint32_t l, uint32_t challenge, in points, in a, in b, in c,
                      in items, in wits, out quotient, out item, out wit) noexcept {
   return lomvuze_fold(m, n, k, l, challenge, points.data(), points.size(), a.data(), a.size(), b.data(), b.size(),
                       c.data(), c.size(), items.data(), items.size(), wits.data(), wits.size(), quotient.data(),
                       quotient.size(), item.data(), item.size(), wit.data(), wit.size());
 }
 
-inline uint32_t open(uint32_t k, uint32_t t, in points, in w, in positions, out openings) noexcept {
+LOMVUZE_CHECKED inline uint32_t open(uint32_t k, uint32_t t, in points, in w, in positions, out openings) noexcept {
   return lomvuze_open(k, t, points.data(), points.size(), w.data(), w.size(), positions.data(), positions.size(),
                       openings.data(), openings.size());
 }
 
-inline uint32_t interleave(uint32_t k, uint32_t l, uint32_t t, in opened, out openings) noexcept {
+LOMVUZE_CHECKED inline uint32_t interleave(uint32_t k, uint32_t l, uint32_t t, in opened, out openings) noexcept {
   return lomvuze_interleave(k, l, t, opened.data(), opened.size(), openings.data(), openings.size());
 }
 
-inline uint64_t verify(uint32_t m, uint32_t n, uint32_t k, uint32_t l, uint32_t t, uint32_t challenge, in items,
+LOMVUZE_CHECKED inline uint64_t verify(uint32_t m, uint32_t n, uint32_t k, uint32_t l, uint32_t t, uint32_t challenge, in items,
                        in positions, in quotient, in new_item, in openings) noexcept {
   return lomvuze_verify(m, n, k, l, t, challenge, items.data(), items.size(), positions.data(), positions.size(),
                         quotient.data(), quotient.size(), new_item.data(), new_item.size(), openings.data(),
                         openings.size());
 }
 
-inline uint32_t decide(uint32_t m, uint32_t n, uint32_t k, in points, in a, in b, in c, in item, in wit) noexcept {
+LOMVUZE_CHECKED inline uint32_t decide(uint32_t m, uint32_t n, uint32_t k, in points, in a, in b, in c, in item, in wit) noexcept {
   return lomvuze_decide(m, n, k, points.data(), points.size(), a.data(), a.size(), b.data(), b.size(), c.data(),
                         c.size(), item.data(), item.size(), wit.data(), wit.size());
 }
 
-inline uint32_t draw_challenge(uint32_t m, uint32_t n, uint32_t k, uint32_t l, in items, in quotient, out seed,
+LOMVUZE_CHECKED inline uint32_t draw_challenge(uint32_t m, uint32_t n, uint32_t k, uint32_t l, in items, in quotient, out seed,
                                out challenge) noexcept {
   return lomvuze_draw_challenge(m, n, k, l, items.data(), items.size(), quotient.data(), quotient.size(), seed.data(),
                                 seed.size(), challenge.data(), challenge.size());
 }
 
-inline uint32_t draw_positions(uint32_t k, uint32_t l, uint32_t t, uint32_t challenge, in seed, in root,
+LOMVUZE_CHECKED inline uint32_t draw_positions(uint32_t k, uint32_t l, uint32_t t, uint32_t challenge, in seed, in root,
                                out positions) noexcept {
   return lomvuze_draw_positions(k, l, t, challenge, seed.data(), seed.size(), root.data(), root.size(),
                                 positions.data(), positions.size());
 }
 
-inline uint32_t draw_r(uint32_t m, uint32_t n, in root, in x, out r) noexcept {
+LOMVUZE_CHECKED inline uint32_t draw_r(uint32_t m, uint32_t n, in root, in x, out r) noexcept {
   return lomvuze_draw_r(m, n, root.data(), root.size(), x.data(), x.size(), r.data(), r.size());
 }
 
-inline uint32_t read_sheet(in sheet, out a, out b, out c, out items, out wits, uint32_t (&sizes)[7]) noexcept {
+LOMVUZE_CHECKED inline uint32_t read_sheet(in sheet, out a, out b, out c, out items, out wits, uint32_t (&sizes)[7]) noexcept {
   return lomvuze_read_sheet(sheet.data(), sheet.size(), a.data(), a.size(), b.data(), b.size(), c.data(), c.size(),
                             items.data(), items.size(), wits.data(), wits.size(), sizes);
 }

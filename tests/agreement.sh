@@ -4,7 +4,7 @@
 # needs rt and cargo. Fails if an equation is refused, if there are none, or if one with a wrong number is accepted. No other run of rt comes between
 # (make/alone.sh).
 set -euo pipefail
-cd "$(dirname "$0")/.."
+. "$(dirname "$0")/common.sh"
 [ "${LOMVUZE_ALONE:-}" = "$(pwd -P)" ] || exec bash make/alone.sh bash tests/agreement.sh
 
 folder=target/agreement
@@ -24,8 +24,8 @@ proved() {
 
 cargo run --quiet --release --manifest-path rust/Cargo.toml -p lomvuze-agreement -- "$folder/agreement" | tee "$folder/counts"
 count=$(cat "$folder"/agreement/specs/*.antt | grep -c '^pub equation-')
-[ "$count" -ge 500 ] || { echo "agreement: only $count equations" >&2; exit 1; }
-[ "$count" = "$(sed -n 's/^equations\t//p' "$folder/counts")" ] || { echo "agreement: $count equations were written" >&2; exit 1; }
+[ "$count" -ge 500 ] || fail "only $count equations"
+[ "$count" = "$(sed -n 's/^equations\t//p' "$folder/counts")" ] || fail "$count equations were written"
 
 # One number off by one must be refused.
 control="$folder/control/agreement"
@@ -37,13 +37,11 @@ for file in "$control"/specs/*.antt; do
     case $(basename "$file" .antt) in Lib | Elements | Inverses | Weights) ;; *) rm "$file" ;; esac
 done
 if proved "$control" || ! grep -q 'equation-0' "$control.log"; then
-    echo "agreement: a wrong number was not refused: $control.log" >&2
-    exit 1
+    fail "a wrong number was not refused: $control.log"
 fi
 
 if ! proved "$folder/agreement"; then
     grep -m 5 'error:' "$folder/agreement.log" | cut -c 1-400 >&2 || tail -5 "$folder/agreement.log" >&2
-    echo "agreement: not proved, see $folder/agreement.log" >&2
-    exit 1
+    fail "not proved, see $folder/agreement.log"
 fi
 echo "agreement: $count equations proved"

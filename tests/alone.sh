@@ -2,12 +2,9 @@
 # No two runs of rt share a target/: commands that make/alone.sh runs do not overlap, whichever way they are started, and nothing in the repository runs
 # rt on target/ without it. In a copy with nothing to prove and a stand-in for rt, which notes when it starts and ends. It takes seconds.
 set -euo pipefail
-cd "$(dirname "$0")/.."
+. "$(dirname "$0")/common.sh"
 unset LOMVUZE_STATICLIB LOMVUZE_BIN LOMVUZE_ALONE
-folder=$(mktemp -d)
-trap 'rm -rf "$folder"' EXIT
-fail() { printf 'FAILED: %s\n' "$1"; exit 1; }
-passed=0
+temporary
 
 mkdir "$folder/tools" "$folder/copy" "$folder/copy/crates"
 cp -R make Makefile crates.txt toolchain.txt include "$folder/copy"

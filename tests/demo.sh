@@ -2,15 +2,13 @@
 # `make demo`: its output on the library that is there; and, in a copy of the repository with nothing built, what it says where a tool is missing,
 # where rt is another version, while a stand-in for rt proves, and where a proof fails. LOMVUZE_STATICLIB names another folder with libverdicts.a in it.
 set -euo pipefail
-cd "$(dirname "$0")/.."
+. "$(dirname "$0")/common.sh"
 if [ -z "${LOMVUZE_STATICLIB:-}" ]; then
     make -s
 fi
-library=$(realpath "${LOMVUZE_STATICLIB:-target/staticlib}/libverdicts.a")
-folder=$(mktemp -d)
-trap 'rm -rf "$folder"' EXIT
-passed=0
-fail() { printf 'FAILED: %s; output:\n' "$1"; cat "$folder/out"; exit 1; }
+library=$(realpath "$staticlib/libverdicts.a")
+temporary
+program_output=$folder/out
 
 expected=$(cat examples/c/fold_batch.expected make/refusal.expected)
 make -s demo >"$folder/out"

@@ -2,7 +2,7 @@
 # Each edit of crates/*/must-fail fits: a line that it replaces stands once in its file. It takes a second, where the prover finds an edit that does not
 # fit after minutes. Run from anywhere.
 set -euo pipefail
-cd "$(dirname "$0")/.."
+. "$(dirname "$0")/common.sh"
 failed=0 edits=0
 for edit in crates/*/must-fail/*.edit; do
     crate=${edit%/must-fail/*}

@@ -4,7 +4,7 @@
 # error anywhere in the log is in the words for a proof file that no longer fits the program, such as a need that is not there or a record without a field:
 # the edit has then changed the program's shape.
 set -euo pipefail
-cd "$(dirname "$0")/.."
+. "$(dirname "$0")/common.sh"
 unfit='that can be named from here|has no field|needs a function|not in scope|unexpected|cannot parse'
 # These follow from other errors as well, so that they count where they are the first.
 unfit_first="$unfit|was not admitted|no occurrence"
@@ -14,15 +14,16 @@ errors() { grep -aE ': error: |: it is not proved ' | cut -c 1-600 || true; }
 
 # ---- The words are found as the prover writes them, behind other errors too.
 found=$(printf '%s\n' 'x.antt:1:1: error: `returns`: the two types differ' 'x.antt:2:1: error: module `Tie` has no `Need-add-mul` that can be named from here' | errors | grep -acE "$unfit" || true)
-[ "$found" = 1 ] || { echo 'FAILED: control: a need that cannot be named is not found'; exit 1; }
+[ "$found" = 1 ] || fail 'control: a need that cannot be named is not found'
 
+[ -d target/must-fail ] || fail 'no edit was tried: run rt must-fail first, which leaves its logs in target/must-fail'
 count=0
 failed=0
 for edit in crates/*/must-fail/*.edit; do
     crate=$(cut -d/ -f2 <<<"$edit")
     name=$crate/$(basename "$edit" .edit)
     log=target/must-fail/$name/.log
-    [ -e "$log" ] || { echo "FAILED: $name was not tried: rt must-fail $crate"; exit 1; }
+    [ -e "$log" ] || fail "$name was not tried: rt must-fail $crate"
     all=$(errors <"$log")
     first=${all%%$'\n'*}
     first=${first#*"/must-fail/$name/"}

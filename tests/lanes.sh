@@ -4,11 +4,11 @@
 # where they are hashed one at a time, does not. The loop is found by the amounts of its shifts, in whatever function it stands. Needs objdump (binutils).
 # LOMVUZE_STATICLIB names another folder with libverdicts.a in it; nothing is proved then.
 set -euo pipefail
-cd "$(dirname "$0")/.."
-[ -n "${LOMVUZE_STATICLIB:-}" ] || bash make/alone.sh rt staticlib verdicts
-archive=${LOMVUZE_STATICLIB:-target/staticlib}/libverdicts.a
-folder=$(mktemp -d)
-trap 'rm -rf "$folder"' EXIT
+. "$(dirname "$0")/common.sh"
+needs objdump
+libraries verdicts
+archive=$staticlib/libverdicts.a
+temporary
 objdump -dr --no-show-raw-insn "$archive" >"$folder/code"
 
 # The loops of the functions that have vector shifts. A line each: the function, how many instructions the loop has, how many rotations of single words
@@ -90,28 +90,26 @@ reached() {
 }
 
 # ---- The archive
-IFS=$'\t' read -r function rotations shifts sums xors ands < <(round "$folder/code") || {
-    echo "FAILED: no loop of $archive has four rounds of SHA-256 in vector instructions: the compiler hashes word by word"
-    exit 1
-}
-[ "$rotations" = 0 ] || { echo "FAILED: $function of $archive, which has the rounds in vectors, also rotates single words, $rotations times"; exit 1; }
+IFS=$'\t' read -r function rotations shifts sums xors ands < <(round "$folder/code") ||
+    fail "no loop of $archive has four rounds of SHA-256 in vector instructions: the compiler hashes word by word"
+[ "$rotations" = 0 ] || fail "$function of $archive, which has the rounds in vectors, also rotates single words, $rotations times"
 reaches() { # reaches CALL
     reached "$folder/code" "lomvuze_$1" >"$folder/reached"
     grep -qxF "$function" "$folder/reached"
 }
 calls=(encode cast quotient fold open decide)
 for call in "${calls[@]}"; do
-    reaches "$call" || { echo "FAILED: lomvuze_$call of $archive does not reach $function"; exit 1; }
+    reaches "$call" || fail "lomvuze_$call of $archive does not reach $function"
 done
-! reaches verify || { echo "FAILED: lomvuze_verify of $archive reaches $function, which counts no blocks"; exit 1; }
-grep -q '^[0-9a-f]* <lomvuze_verify>:$' "$folder/code" || { echo "FAILED: lomvuze_verify is not in $archive"; exit 1; }
+! reaches verify || fail "lomvuze_verify of $archive reaches $function, which counts no blocks"
+grep -q '^[0-9a-f]* <lomvuze_verify>:$' "$folder/code" || fail "lomvuze_verify is not in $archive"
 
 # ---- Controls: the same code without what is looked for
 controls=0
 refuses() { # refuses WHAT SED-SCRIPT
     sed "$2" "$folder/code" >"$folder/changed"
-    ! cmp -s "$folder/code" "$folder/changed" || { echo "FAILED: control: $1: nothing is changed"; exit 1; }
-    [ -z "$(round "$folder/changed")" ] || { echo "FAILED: control: $1 is taken for vector instructions"; exit 1; }
+    ! cmp -s "$folder/code" "$folder/changed" || fail "control: $1: nothing is changed"
+    [ -z "$(round "$folder/changed")" ] || fail "control: $1 is taken for vector instructions"
     controls=$((controls + 1))
 }
 refuses 'a loop on general registers' 's/%xmm[0-9]*/%eax/g'

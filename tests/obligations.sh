@@ -1,16 +1,13 @@
 #!/usr/bin/env bash
 # What goes wrong where a clearing house does not see to its obligations: builds examples/c/obligations and runs it, for all and for each one. The
-# program fails where a count is not what it must be; what it prints is as stored, and the table is the one in its README.md. LOMVUZE_STATICLIB names
+# program fails where a count is not what it must be; what it prints is as stored, and the table is the one in docs/OBLIGATIONS.md. LOMVUZE_STATICLIB names
 # another folder with libverdicts.a in it; nothing is built there. The program is run by the command that LOMVUZE_RUN gives, if any.
 set -euo pipefail
-cd "$(dirname "$0")/.."
-if [ -z "${LOMVUZE_STATICLIB:-}" ]; then
-    bash make/alone.sh rt staticlib verdicts
-fi
-library="${LOMVUZE_STATICLIB:-target/staticlib}/libverdicts.a"
+. "$(dirname "$0")/common.sh"
+libraries verdicts
+library=$staticlib/libverdicts.a
 sources=examples/c/obligations
-folder=$(mktemp -d)
-trap 'rm -rf "$folder"' EXIT
+temporary
 
 cc -std=c11 -O2 -Wall -Wextra -Wpedantic -Wconversion -Wsign-conversion -Werror -Iinclude -o "$folder/obligations" "$sources"/*.c "$library"
 
@@ -32,7 +29,9 @@ done
 for output in table words; do
     diff -u "$sources/$output.expected" "$folder/$output" || { echo "FAILED: obligations prints another $output"; exit 1; }
 done
-[[ "$(cat "$sources/README.md")" == *"$(cat "$sources/table.expected")"* ]] || { echo "FAILED: $sources/README.md has another table"; exit 1; }
+[[ "$(cat docs/OBLIGATIONS.md)" == *"$(cat "$sources/table.expected")"* ]] || { echo "FAILED: docs/OBLIGATIONS.md has another table"; exit 1; }
+
+[[ "$("$folder/obligations" --help)" == 'usage: obligations [N]'* ]] || { echo 'FAILED: obligations --help'; exit 1; }
 
 # Other arguments are refused.
 for arguments in 0 8 x '1 2'; do

@@ -1,10 +1,10 @@
 #!/usr/bin/env bash
-# Valgrind must report nothing: on the programs that tests/c.sh runs, and on the edges of every call (rust/samples/edges.rs), whose buffers
+# Valgrind must report nothing: on the programs that tests/c.sh runs, and on the edges of every call (rust/trials/src/edges), whose buffers
 # are as long as they are said to be and no longer. On an error the exit status is 9, which no run expects; reports are left in
 # target/valgrind. It needs valgrind, a C compiler and Rust, and is no part of the gate.
 set -euo pipefail
-cd "$(dirname "$0")/.."
-command -v valgrind >/dev/null || { echo 'valgrind is not on PATH' >&2; exit 1; }
+. "$(dirname "$0")/common.sh"
+needs valgrind
 reports=$PWD/target/valgrind
 rm -rf "$reports"
 mkdir -p "$reports"

@@ -1,9 +1,11 @@
 /*
- * What both programs need: a stored file part by part, what is drawn from it, and how verdicts and blocks are printed (README.md gives the formats).
+ * What the programs on stored files share: a file part by part, what is drawn from it, and how verdicts and blocks are printed (README.md gives the
+ * formats).
  */
 #ifndef BATCH_H
 #define BATCH_H
 
+#include <errno.h>
 #include <inttypes.h>
 #include <stdbool.h>
 #include <stdio.h>
@@ -11,6 +13,12 @@
 
 #include "lomvuze.h"
 
+/* Exit statuses. */
+enum { FOLD_ACCEPTED = 0, FOLD_REFUSED = 1, UNUSABLE = 2, OTHER_CIRCUIT = 3 };
+
+/* What a file starts with: letters, and the numbers m, n, k, l, t and the entry counts of A, B and C. */
+#define STATEMENTS "lomvuze2"
+#define BATCH "lomvuze3"
 enum { LETTERS = 8, HEADER_NUMBERS = 8 };
 
 /* The longest file: a batch at the greatest sizes. */
@@ -34,6 +42,7 @@ struct part {
 
 /* What is left to read. Where it ends before a part does, or a size is not permitted, it is not complete. */
 struct rest {
+  const char *name;
   const uint8_t *next;
   size_t length;
   bool complete;
@@ -54,6 +63,22 @@ struct drawn {
 
 /* ---- The file */
 
+/* Says why a file cannot be used. */
+static inline bool refuse(const char *name, const char *why) {
+  fprintf(stderr, "cannot use %s: %s\n", name, why);
+  return false;
+}
+
+/* Reads up to `size` bytes of a file; whether it could be read. */
+static inline bool read_file(const char *name, uint8_t *bytes, size_t size, size_t *length) {
+  FILE *stream = fopen(name, "rb");
+  if (stream == NULL) return refuse(name, strerror(errno));
+  *length = fread(bytes, 1, size, stream);
+  bool failed = ferror(stream) != 0;
+  fclose(stream);
+  return !failed || refuse(name, "it cannot be read");
+}
+
 /* The next part. */
 static inline struct part take(struct rest *rest, size_t length) {
   struct part part = {rest->next, length};
@@ -67,34 +92,21 @@ static inline struct part take(struct rest *rest, size_t length) {
   return part;
 }
 
-/* Says why a file cannot be used. */
-static inline bool refuse(const char *why) {
-  fprintf(stderr, "cannot use the file: %s\n", why);
-  return false;
-}
-
 /*
  * Reads a file that starts with the given letters, and takes its front. A part lies in the file or is not there: sizes that are not permitted
  * give a length that no file has.
  */
 static inline bool start(const char *name, const char *letters, struct front *front, struct rest *rest) {
-  FILE *stream = fopen(name, "rb");
-  if (stream == NULL) return refuse("it cannot be opened");
-  *rest = (struct rest){file, fread(file, 1, sizeof file, stream), true};
-  bool failed = ferror(stream) != 0;
-  fclose(stream);
-  if (failed) return refuse("it cannot be read");
-
+  *rest = (struct rest){name, file, 0, true};
+  if (!read_file(name, file, sizeof file, &rest->length)) return false;
   struct part first = take(rest, LETTERS);
   struct part header = take(rest, HEADER_NUMBERS * LOMVUZE_NUMBER_BYTES);
-  if (!rest->complete || memcmp(first.bytes, letters, LETTERS) != 0) return refuse("it has another header");
+  if (!rest->complete || memcmp(first.bytes, letters, LETTERS) != 0)
+    return refuse(name, strcmp(letters, BATCH) == 0 ? "it does not start as a batch does, with " BATCH
+                                                    : "it does not start as statements do, with " STATEMENTS);
   uint32_t h[HEADER_NUMBERS];
   for (size_t i = 0; i < HEADER_NUMBERS; i++) h[i] = lomvuze_number(header.bytes + i * LOMVUZE_NUMBER_BYTES);
-  front->m = h[0];
-  front->n = h[1];
-  front->k = h[2];
-  front->l = h[3];
-  front->t = h[4];
+  *front = (struct front){.m = h[0], .n = h[1], .k = h[2], .l = h[3], .t = h[4]};
   front->a = take(rest, LOMVUZE_ENTRIES_BYTES(h[5]));
   front->b = take(rest, LOMVUZE_ENTRIES_BYTES(h[6]));
   front->c = take(rest, LOMVUZE_ENTRIES_BYTES(h[7]));
@@ -105,12 +117,22 @@ static inline bool start(const char *name, const char *letters, struct front *fr
 
 /* Whether the parts taken are the whole file. Then all sizes are permitted. */
 static inline bool finished(const struct rest *rest) {
-  if (!rest->complete) return refuse("it is too short, or has a size that is not permitted");
-  if (rest->length != 0) return refuse("it is too long");
+  if (!rest->complete) return refuse(rest->name, "it is too short, or has a size that is not permitted");
+  if (rest->length != 0) return refuse(rest->name, "it is too long");
   return true;
 }
 
+/* Item i of the file. */
+static inline const uint8_t *item_of(const struct front *f, uint32_t i) { return f->items.bytes + LOMVUZE_ITEMS_BYTES(f->m, f->n, i); }
+
 /* ---- What is printed */
+
+/* Prints how a program is called: where that was asked for, to standard output. The exit status. */
+static inline int usage(int argc, char **argv, const char *text) {
+  bool asked = argc == 2 && (strcmp(argv[1], "-h") == 0 || strcmp(argv[1], "--help") == 0);
+  fputs(text, asked ? stdout : stderr);
+  return asked ? 0 : UNUSABLE;
+}
 
 /* Prints the verdict of a call; whether it is 0. */
 static inline bool report(const char *call, uint32_t verdict) {
@@ -126,86 +148,60 @@ static inline bool report_verify(const struct front *front, uint64_t answer) {
   return verdict == LOMVUZE_ACCEPTED;
 }
 
-/* Says which items the verdict covers: all l, where nothing was refused, and else none. The exit status. */
-static inline int conclude(bool accepted, uint32_t l) {
-  if (accepted)
-    printf("the verdict covers items 0 to %" PRIu32 ": all %" PRIu32 " of the file\n", l - 1, l);
+/* At so many challenges, at most, folds of a list with a false item can pass: for one quotient and one set of k positions. */
+static inline uint32_t bound(const struct front *f) { return (f->l - 1) * (f->m + 2); }
+
+/* Says what one accepted fold at drawn positions shows and what not, or that nothing is shown. The exit status. */
+static inline int conclude(bool accepted, const struct front *f) {
+  if (!accepted) {
+    printf("refused: nothing is shown about any item\n");
+    return FOLD_REFUSED;
+  }
+  if (f->l == 1)
+    printf("accepted: one fold of item 0, the only one of the file\n"
+           "For l = 1 that is enough: the item holds with the witness that the opened values fix, or two different strings hashed here have one\n"
+           "SHA-256 digest.\n");
   else
-    printf("no item is covered\n");
-  return accepted ? 0 : 1;
+    printf("accepted: one fold of items 0 to %" PRIu32 ", all %" PRIu32 " of the file, at one challenge\n"
+           "That does not show that each item holds: for one quotient and one set of k positions, a list with a false item can pass at up to "
+           "(l - 1) * (m + 2) = %" PRIu32 "\n"
+           "of the p - l = %" PRIu32 " challenges (more by a SHA-256 collision). Drawn positions differ from fold to fold; collect.c keeps to one set.\n",
+           f->l - 1, f->l, bound(f), LOMVUZE_P - f->l);
+  return FOLD_ACCEPTED;
 }
 
 /* ---- What no call tests: the items as they are handed in */
 
 /* Whether an item is a fresh statement: its e is 0. Any other e has to be the result of a fold that was verified, and the file has none. */
 static inline bool is_fresh(uint32_t i, const uint8_t *item) {
-  uint32_t e = lomvuze_number(item);
+  uint32_t e = lomvuze_number(item + LOMVUZE_ITEM_E);
   if (e != 0) printf("item %" PRIu32 ": e = %" PRIu32 ", which is no fresh statement\n", i, e);
   return e == 0;
 }
 
-/* Whether the r of an item is the one that is drawn from its root and x. Any other was picked by somebody, and may leave a false row without weight. */
+/* Draws the r that an item has to have, from its root and x; the verdict. */
+static inline uint32_t draw_r_of(const struct front *f, const uint8_t *item, uint8_t r[LOMVUZE_R_BYTES(LOMVUZE_MAX_M)]) {
+  return lomvuze_draw_r(f->m, f->n, item + LOMVUZE_ITEM_ROOT(f->m, f->n), LOMVUZE_DIGEST_BYTES,
+                        item + LOMVUZE_ITEM_X(f->m), LOMVUZE_X_BYTES(f->n), r, LOMVUZE_R_BYTES(f->m));
+}
+
+/* Whether the r of an item is the one that is drawn. Any other was picked by somebody, and may leave a false row without weight. */
 static inline bool has_drawn_r(const struct front *f, uint32_t i, const uint8_t *item) {
   uint8_t drawn[LOMVUZE_R_BYTES(LOMVUZE_MAX_M)];
-  const uint8_t *r = item + LOMVUZE_NUMBER_BYTES, *x = r + LOMVUZE_R_BYTES(f->m), *root = item + LOMVUZE_ITEM_ROOT(f->m, f->n);
   char call[32];
   snprintf(call, sizeof call, "item %" PRIu32 ", draw_r", i);
-  uint32_t verdict = lomvuze_draw_r(f->m, f->n, root, LOMVUZE_DIGEST_BYTES, x, LOMVUZE_X_BYTES(f->n), drawn, LOMVUZE_R_BYTES(f->m));
+  uint32_t verdict = draw_r_of(f, item, drawn);
   if (verdict != LOMVUZE_ACCEPTED) return report(call, verdict);
-  if (memcmp(r, drawn, LOMVUZE_R_BYTES(f->m)) == 0) return true;
+  if (memcmp(item + LOMVUZE_ITEM_R, drawn, LOMVUZE_R_BYTES(f->m)) == 0) return true;
   printf("item %" PRIu32 ": r is not the one that is drawn from its root and x\n", i);
   return false;
 }
 
 /* Whether each item is a fresh statement with the r that is drawn. Says which is the first that is not. */
 static inline bool are_statements(const struct front *f) {
-  for (uint32_t i = 0; i < f->l; i++) {
-    const uint8_t *item = f->items.bytes + LOMVUZE_ITEMS_BYTES(f->m, f->n, i);
-    if (!is_fresh(i, item) || !has_drawn_r(f, i, item)) return false;
-  }
+  for (uint32_t i = 0; i < f->l; i++)
+    if (!is_fresh(i, item_of(f, i)) || !has_drawn_r(f, i, item_of(f, i))) return false;
   return true;
-}
-
-/* ---- What is drawn */
-
-/* Draws the challenge from the items of the file and a quotient. */
-static inline bool draw_challenge(const struct front *f, const uint8_t *quotient, struct drawn *drawn) {
-  uint8_t challenge[LOMVUZE_CHALLENGE_BYTES];
-  if (!report("draw_challenge", lomvuze_draw_challenge(f->m, f->n, f->k, f->l,
-                                                       f->items.bytes, f->items.length,
-                                                       quotient, LOMVUZE_QUOTIENT_BYTES(f->m, f->l),
-                                                       drawn->seed, sizeof drawn->seed,
-                                                       challenge, sizeof challenge)))
-    return false;
-  drawn->challenge = lomvuze_number(challenge);
-  printf("challenge: %" PRIu32 "\n", drawn->challenge);
-  return true;
-}
-
-/* How many of the positions are different. */
-static inline uint32_t count_different(const struct front *f, const uint8_t *positions) {
-  bool taken[LOMVUZE_MAX_T(LOMVUZE_MAX_K)] = {false};
-  uint32_t count = 0;
-  for (uint32_t j = 0; j < f->t; j++) {
-    bool *place = &taken[lomvuze_number(positions + LOMVUZE_POSITIONS_BYTES(j))];
-    if (!*place) count++;
-    *place = true;
-  }
-  return count;
-}
-
-/* Draws the positions from seed, challenge and the root of the new item; whether at least k of them are different. */
-static inline bool draw_positions(const struct front *f, const uint8_t *new_item, struct drawn *drawn) {
-  if (!report("draw_positions", lomvuze_draw_positions(f->k, f->l, f->t, drawn->challenge,
-                                                       drawn->seed, sizeof drawn->seed,
-                                                       new_item + LOMVUZE_ITEM_ROOT(f->m, f->n), LOMVUZE_DIGEST_BYTES,
-                                                       drawn->positions, LOMVUZE_POSITIONS_BYTES(f->t))))
-    return false;
-  uint32_t different = count_different(f, drawn->positions);
-  printf("positions:");
-  for (uint32_t j = 0; j < f->t; j++) printf(" %" PRIu32, lomvuze_number(drawn->positions + LOMVUZE_POSITIONS_BYTES(j)));
-  printf("\ndifferent positions: %" PRIu32 " of %" PRIu32 ", and at least k = %" PRIu32 " have to be\n", different, f->t, f->k);
-  return different >= f->k;
 }
 
 #endif

@@ -19,6 +19,6 @@ int main(void) {
   answer = lomvuze_decide(0, 2, 2, LOMVUZE_BUILT_IN_POINTS, a, sizeof a, b, sizeof b, c, sizeof c,
                           item, sizeof item, w, sizeof w);
   printf("decide %" PRIu32 ": %s\n", answer, lomvuze_strerror(answer));
-  puts(answer == LOMVUZE_ACCEPTED ? "the verdict covers this one item" : "no item is covered");
+  puts(answer == LOMVUZE_ACCEPTED ? "the item holds with the witness lent" : "nothing is shown about the item");
   return answer == LOMVUZE_ACCEPTED ? 0 : 1;
 }

@@ -1,16 +1,16 @@
-/*
- * Prints the root of a witness over the built-in points as 64 hexadecimal digits, as an `item` line of a sheet has it.
- *
- *   root NUMBER...
- *
- * The numbers are those of the witness, k of them: 2, 4, 8, 16, 32 or 64. Exit status: 0 where the root is printed, 1 where lomvuze_encode refuses,
- * 2 where an argument is no number from 0 to 4294967295 or there are none or over 64.
- */
+/* Prints the root of a witness over the built-in points as 64 hexadecimal digits, as an `item` line of a sheet has it. */
 #include <inttypes.h>
 #include <stdbool.h>
 #include <stdio.h>
+#include <string.h>
 
 #include "lomvuze.h"
+
+static const char help[] =
+    "usage: root NUMBER... (installed as lomvuze-root)\n"
+    "  NUMBER  the numbers of the witness, k of them: 2, 4, 8, 16, 32 or 64, each below p = 2013265921\n"
+    "Exit status: 0 where the root is printed, 1 where lomvuze_encode refuses, 2 where an argument is no number from 0 to 4294967295, or there are none or\n"
+    "over 64.\n";
 
 /* Reads a decimal number of digits alone, and puts it into four bytes. */
 static bool put(const char *text, uint8_t *bytes) {
@@ -29,10 +29,11 @@ int main(int argc, char **argv) {
   uint8_t witness[LOMVUZE_WITNESS_BYTES(LOMVUZE_MAX_K)];
   uint8_t codeword[LOMVUZE_CODEWORD_BYTES(LOMVUZE_MAX_K)];
   uint8_t root[LOMVUZE_DIGEST_BYTES];
+  if (argc == 2 && (strcmp(argv[1], "-h") == 0 || strcmp(argv[1], "--help") == 0)) return fputs(help, stdout) < 0;
   bool numbers = argc > 1 && argc - 1 <= LOMVUZE_MAX_K;
   for (int i = 1; numbers && i < argc; i++) numbers = put(argv[i], witness + (size_t)(i - 1) * LOMVUZE_NUMBER_BYTES);
   if (!numbers) {
-    fprintf(stderr, "usage: root NUMBER... (the witness: 2, 4, 8, 16, 32 or 64 numbers)\n");
+    fputs(help, stderr);
     return 2;
   }
   uint32_t k = (uint32_t)(argc - 1);

@@ -208,14 +208,14 @@ static void before_8(void) {
   bare(LOMVUZE_SIZE);
   f.cut = 0;
   bare_with(last_opening, LOMVUZE_P, LOMVUZE_ELEMENT);
-  bare_with(f.items + (f.l - 1) * item_bytes + LOMVUZE_NUMBER_BYTES, 2, LOMVUZE_FIRST_INPUT);
+  bare_with(f.items + (f.l - 1) * item_bytes + LOMVUZE_ITEM_X(0), 2, LOMVUZE_FIRST_INPUT);
   f.challenge = f.l - 1;
   bare(LOMVUZE_CHALLENGE);
   f.challenge = LOMVUZE_P;
   bare(LOMVUZE_CHALLENGE);
   f.challenge = challenge;
   bare_with(f.positions + LOMVUZE_POSITIONS_BYTES(f.t - 1), 4 * f.k, LOMVUZE_POSITION);
-  bare_with(f.new_item, 1, LOMVUZE_NEW_ITEM);
+  bare_with(f.new_item + LOMVUZE_ITEM_E, 1, LOMVUZE_NEW_ITEM);
   REQUIRE(verify() == whole(LOMVUZE_ACCEPTED));
 }
 

@@ -62,7 +62,8 @@ static void chain(const bytes &points) {
   REQUIRE(lomvuze::quotient(0, 2, 2, 2, points, a, b, c, items, wits, same) == LOMVUZE_ACCEPTED);
   REQUIRE(lomvuze::fold(0, 2, 2, 2, 2, points, a, b, c, items, wits, quotient, item, w) == LOMVUZE_ACCEPTED);
   REQUIRE(quotient == numbers({4}) && quotient == same && w == numbers({6, 7}));
-  REQUIRE(bytes(item.begin(), item.begin() + 12) == numbers({8, 1, 34}));
+  REQUIRE(lomvuze_number(item.data() + LOMVUZE_ITEM_E) == 8 && lomvuze_number(item.data() + LOMVUZE_ITEM_X(0)) == 1);
+  REQUIRE(lomvuze_number(item.data() + LOMVUZE_ITEM_X(0) + LOMVUZE_NUMBER_BYTES) == 34);
 
   bytes opened, openings(LOMVUZE_ALL_OPENINGS_BYTES(2, 2, 3));
   for (const bytes &witness : {w0, w1, w}) {

@@ -50,8 +50,9 @@ static bool other_challenge(void) {
 static void of_challenges(void) {
   set_up(1, 2, 4, 2);
   draw_first();
-  uint8_t *const parts[] = {item(0),       item(0) + 4, item(0) + 12, item(0) + 16, item(0) + 47, item(1),
-                            item(1) + 47, in.quotient, in.quotient + 4};
+  const size_t last = LOMVUZE_DIGEST_BYTES - 1, next_number = LOMVUZE_NUMBER_BYTES;
+  uint8_t *const parts[] = {item(0) + LOMVUZE_ITEM_E, item(0) + LOMVUZE_ITEM_R, inputs(0) + next_number, root(0), root(0) + last,
+                            item(1) + LOMVUZE_ITEM_E, root(1) + last,           in.quotient,             in.quotient + next_number};
   for (size_t i = 0; i < sizeof parts / sizeof parts[0]; i++) {
     *parts[i] ^= 1;
     REQUIRE(other_challenge());
@@ -66,7 +67,7 @@ static void of_challenges(void) {
 /* The same bytes as an item of m = 0, n = 3 and of m = 1, n = 2: both have 1 as first input. */
 static void of_m_and_n(void) {
   set_up(0, 3, 2, 1);
-  put(inputs(0) + LOMVUZE_NUMBER_BYTES, 1);
+  put(item(0) + LOMVUZE_ITEM_X(1), 1);
   draw_first();
   in.m = 1;
   in.n = 2;

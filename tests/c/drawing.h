@@ -11,14 +11,13 @@
 
 enum { FILL = 0xA5 };
 
-/* ---- What goes in. Each buffer has room for a number more than is permitted. */
+/* ---- What goes in */
 
 static struct {
   uint32_t m, n, k, l, t, challenge;
-  size_t items_len, quotient_len, seed_len, challenge_len, root_len, positions_len, x_len, r_len;
-  uint8_t items[LOMVUZE_ITEMS_BYTES(LOMVUZE_MAX_M, LOMVUZE_MAX_N, LOMVUZE_MAX_L) + 4];
-  uint8_t quotient[LOMVUZE_QUOTIENT_BYTES(LOMVUZE_MAX_M, LOMVUZE_MAX_L) + 4];
-  uint8_t seed[LOMVUZE_SEED_BYTES + 4], root[LOMVUZE_DIGEST_BYTES + 4], x[LOMVUZE_X_BYTES(LOMVUZE_MAX_N) + 4];
+  size_t items_len, quotient_len, positions_len, x_len, r_len;
+  uint8_t items[LOMVUZE_ITEMS_BYTES(LOMVUZE_MAX_M, LOMVUZE_MAX_N, LOMVUZE_MAX_L)], quotient[LOMVUZE_QUOTIENT_BYTES(LOMVUZE_MAX_M, LOMVUZE_MAX_L)];
+  uint8_t seed[LOMVUZE_SEED_BYTES], root[LOMVUZE_DIGEST_BYTES], x[LOMVUZE_X_BYTES(LOMVUZE_MAX_N)];
 } in;
 
 static inline void put(uint8_t *bytes, uint32_t number) {
@@ -35,21 +34,23 @@ static inline void put_digest(uint8_t *bytes, uint64_t *state) {
   for (size_t i = 0; i < LOMVUZE_DIGEST_BYTES; i++) bytes[i] = next(state) & 0xff;
 }
 
-/* The lengths that the sizes give, permitted or not. */
+/* The lengths that the sizes give. */
 static inline void set_lengths(void) {
-  in.items_len = in.l * (4 + 4 * (size_t)in.m + 4 * (size_t)in.n + 32);
-  in.quotient_len = in.l == 0 ? 0 : 4 * ((size_t)in.l - 1) * (in.m + 1);
-  in.seed_len = 32;
-  in.challenge_len = 4;
-  in.root_len = 32;
-  in.positions_len = 4 * (size_t)in.t;
-  in.x_len = 4 * (size_t)in.n;
-  in.r_len = 4 * (size_t)in.m;
+  in.items_len = LOMVUZE_ITEMS_BYTES(in.m, in.n, in.l);
+  in.quotient_len = LOMVUZE_QUOTIENT_BYTES(in.m, in.l);
+  in.positions_len = LOMVUZE_POSITIONS_BYTES(in.t);
+  in.x_len = LOMVUZE_X_BYTES(in.n);
+  in.r_len = LOMVUZE_R_BYTES(in.m);
 }
 
-/* Item i, and where its x starts. */
+/* Item i, where its x and its root start, and its number j: e, then r, then x. */
 static inline uint8_t *item(size_t i) { return in.items + LOMVUZE_ITEMS_BYTES(in.m, in.n, i); }
-static inline uint8_t *inputs(size_t i) { return item(i) + LOMVUZE_NUMBER_BYTES * (1 + in.m); }
+static inline uint8_t *inputs(size_t i) { return item(i) + LOMVUZE_ITEM_X(in.m); }
+static inline uint8_t *root(size_t i) { return item(i) + LOMVUZE_ITEM_ROOT(in.m, in.n); }
+static inline uint8_t *item_number(size_t i, size_t j) {
+  if (j == 0) return item(i) + LOMVUZE_ITEM_E;
+  return j <= in.m ? item(i) + LOMVUZE_ITEM_R + (j - 1) * LOMVUZE_NUMBER_BYTES : inputs(i) + (j - 1 - in.m) * LOMVUZE_NUMBER_BYTES;
+}
 
 /* Items with 1 as first input, a quotient, a root, and x of item 0. There are 4k positions to draw. */
 static inline void set_up(uint32_t m, uint32_t n, uint32_t k, uint32_t l) {
@@ -61,9 +62,9 @@ static inline void set_up(uint32_t m, uint32_t n, uint32_t k, uint32_t l) {
   in.t = 4 * k;
   set_lengths();
   for (size_t i = 0; i < l; i++) {
-    for (size_t j = 0; j < 1 + m + n; j++) put(item(i) + j * LOMVUZE_NUMBER_BYTES, next(&state));
+    for (size_t j = 0; j < 1 + m + n; j++) put(item_number(i, j), next(&state));
     put(inputs(i), 1);
-    put_digest(item(i) + LOMVUZE_ITEM_ROOT(m, n), &state);
+    put_digest(root(i), &state);
   }
   for (size_t j = 0; j < in.quotient_len; j += LOMVUZE_NUMBER_BYTES) put(in.quotient + j, next(&state));
   put_digest(in.root, &state);
@@ -95,20 +96,20 @@ static inline uint32_t left_alone(uint32_t answer, size_t seed, size_t challenge
 static inline uint32_t draw_challenge(void) {
   memset(&out, FILL, sizeof out);
   uint32_t answer = lomvuze_draw_challenge(in.m, in.n, in.k, in.l, in.items, in.items_len, in.quotient, in.quotient_len,
-                                           out.seed, in.seed_len, out.challenge, in.challenge_len);
+                                           out.seed, LOMVUZE_SEED_BYTES, out.challenge, LOMVUZE_CHALLENGE_BYTES);
   return left_alone(answer, LOMVUZE_SEED_BYTES, LOMVUZE_CHALLENGE_BYTES, 0, 0);
 }
 
 static inline uint32_t draw_positions(void) {
   memset(&out, FILL, sizeof out);
-  uint32_t answer = lomvuze_draw_positions(in.k, in.l, in.t, in.challenge, in.seed, in.seed_len, in.root, in.root_len,
+  uint32_t answer = lomvuze_draw_positions(in.k, in.l, in.t, in.challenge, in.seed, sizeof in.seed, in.root, sizeof in.root,
                                            out.positions, in.positions_len);
   return left_alone(answer, 0, 0, in.positions_len, 0);
 }
 
 static inline uint32_t draw_r(void) {
   memset(&out, FILL, sizeof out);
-  uint32_t answer = lomvuze_draw_r(in.m, in.n, in.root, in.root_len, in.x, in.x_len, out.r, in.r_len);
+  uint32_t answer = lomvuze_draw_r(in.m, in.n, in.root, sizeof in.root, in.x, in.x_len, out.r, in.r_len);
   return left_alone(answer, 0, 0, 0, in.r_len);
 }
 

@@ -27,8 +27,7 @@ static void put(uint8_t *bytes, uint32_t number) {
   for (int i = 0; i < 4; i++) bytes[i] = (uint8_t)(number >> 8 * i);
 }
 
-/* e, r, and then x. */
-static uint8_t *first_input(uint8_t *item) { return item + (1 + M) * LOMVUZE_NUMBER_BYTES; }
+static uint8_t *first_input(uint8_t *item) { return item + LOMVUZE_ITEM_X(M); }
 
 /* ---- The calls. Each gets buffers that are filled, and leaves them so where it refuses. */
 

@@ -22,12 +22,12 @@ static void put(uint8_t *bytes, uint32_t number) {
 
 /* e, r, x = 1 and the root of the witness. */
 static void make_item(bool other_r, bool other_e) {
-  uint8_t codeword[LOMVUZE_CODEWORD_BYTES(K)], *r = item + 4, *root = item + LOMVUZE_ITEM_ROOT(M, N);
+  uint8_t codeword[LOMVUZE_CODEWORD_BYTES(K)], *r = item + LOMVUZE_ITEM_R, *root = item + LOMVUZE_ITEM_ROOT(M, N);
   REQUIRE(lomvuze_encode(K, LOMVUZE_BUILT_IN_POINTS, witness, sizeof witness, codeword, sizeof codeword, root, LOMVUZE_DIGEST_BYTES) == 0);
   REQUIRE(lomvuze_draw_r(M, N, root, LOMVUZE_DIGEST_BYTES, one, sizeof one, r, LOMVUZE_R_BYTES(M)) == 0);
-  memcpy(item + 8, one, sizeof one);
+  memcpy(item + LOMVUZE_ITEM_X(M), one, sizeof one);
   if (other_r) put(r, lomvuze_number(r) / 2);
-  if (other_e) put(item, lomvuze_number(r) - 1); /* row 0 is 0 * 0 = 1, and has the weight 1 - r */
+  if (other_e) put(item + LOMVUZE_ITEM_E, lomvuze_number(r) - 1); /* row 0 is 0 * 0 = 1, and has the weight 1 - r */
 }
 
 /* The openings of the item and of the new one, which is the same, at the positions that are drawn. */

@@ -18,6 +18,10 @@ void put(uint8_t *bytes, size_t j, uint32_t value) {
   for (size_t i = 0; i < LOMVUZE_NUMBER_BYTES; i++) bytes[LOMVUZE_NUMBER_BYTES * j + i] = (uint8_t)(value >> (8 * i));
 }
 
+uint32_t e_of(const struct pair *pair) { return number(pair->item + LOMVUZE_ITEM_E, 0); }
+
+uint32_t x1_of(const struct pair *pair) { return number(pair->item + LOMVUZE_ITEM_X(0), 1); }
+
 void need(const char *call, uint32_t verdict) {
   if (verdict == LOMVUZE_ACCEPTED) return;
   fprintf(stderr, "%s answered %u\n", call, (unsigned)verdict);
@@ -36,9 +40,9 @@ uint32_t point(uint32_t position) { return power(power(31, (LOMVUZE_P - 1) / 8),
 
 struct pair written(const struct circuit *c, struct claim claim) {
   struct pair pair = {{0}, {0}};
-  put(pair.item, 0, claim.e);
-  if (c->m == 1) put(pair.item, 1, claim.r);
-  for (size_t j = 0; j < c->n; j++) put(pair.item, 1 + c->m + j, claim.x[j]);
+  put(pair.item + LOMVUZE_ITEM_E, 0, claim.e);
+  if (c->m == 1) put(pair.item + LOMVUZE_ITEM_R, 0, claim.r);
+  for (size_t j = 0; j < c->n; j++) put(pair.item + LOMVUZE_ITEM_X(c->m), j, claim.x[j]);
   for (size_t j = 0; j < c->k; j++) put(pair.witness, j, claim.w[j]);
   put_root(c, &pair);
   return pair;
@@ -46,7 +50,7 @@ struct pair written(const struct circuit *c, struct claim claim) {
 
 /* (x1 + e) * 1 = x1 + e. */
 struct pair twin(const struct pair *pair) {
-  uint32_t e = number(pair->item, 0), x = number(pair->item, 2);
+  uint32_t e = e_of(pair), x = x1_of(pair);
   return written(&product, (struct claim){.e = e, .x = {1, x}, .w = {plus(x, e), 1}});
 }
 
@@ -70,14 +74,21 @@ static uint32_t combined(uint32_t a, uint32_t first, uint32_t second) {
   return plus(times(minus(1, a), first), times(a, second));
 }
 
+static void combine(uint32_t a, size_t count, const uint8_t *first, const uint8_t *second, uint8_t *out) {
+  for (size_t j = 0; j < count; j++) put(out, j, combined(a, number(first, j), number(second, j)));
+}
+
 void fold_by_hand(struct fold *f) {
   const struct circuit *c = f->circuit;
-  const uint8_t *second = f->items + LOMVUZE_ITEM_BYTES(c->m, c->n);
+  const uint8_t *first = f->items, *second = f->items + LOMVUZE_ITEM_BYTES(c->m, c->n);
+  const size_t e = LOMVUZE_ITEM_E, r = LOMVUZE_ITEM_R, x = LOMVUZE_ITEM_X(c->m);
   uint32_t a = f->challenge, quotient = 0;
-  for (size_t j = 0; j < 1 + c->m + c->n; j++) put(f->out.item, j, combined(a, number(f->items, j), number(second, j)));
-  for (size_t j = 0; j < c->k; j++) put(f->out.witness, j, combined(a, number(f->witnesses, j), number(f->witnesses, c->k + j)));
+  combine(a, 1, first + e, second + e, f->out.item + e);
+  combine(a, c->m, first + r, second + r, f->out.item + r);
+  combine(a, c->n, first + x, second + x, f->out.item + x);
+  combine(a, c->k, f->witnesses, f->witnesses + LOMVUZE_WITNESS_BYTES(c->k), f->out.witness);
   for (size_t j = c->m + 1; j > 0; j--) quotient = plus(times(quotient, a), number(f->quotient, j - 1));
   uint32_t z = times(a, minus(a, 1));
-  put(f->out.item, 0, plus(number(f->out.item, 0), times(z, quotient)));
+  put(f->out.item + e, 0, plus(e_of(&f->out), times(z, quotient)));
   put_root(c, &f->out);
 }

@@ -88,7 +88,7 @@ void pick_positions(struct fold *f, struct picker *picker) {
 uint32_t drawn_r(const struct circuit *c, const struct pair *pair) {
   uint8_t r[LOMVUZE_R_BYTES(MOST_M)];
   need("draw_r", lomvuze_draw_r(c->m, c->n, pair->item + LOMVUZE_ITEM_ROOT(c->m, c->n), LOMVUZE_DIGEST_BYTES,
-                                pair->item + LOMVUZE_NUMBER_BYTES * (1 + c->m), LOMVUZE_X_BYTES(c->n), r, LOMVUZE_R_BYTES(c->m)));
+                                pair->item + LOMVUZE_ITEM_X(c->m), LOMVUZE_X_BYTES(c->n), r, LOMVUZE_R_BYTES(c->m)));
   return number(r, 0);
 }
 

@@ -113,8 +113,9 @@ int main(int argc, char **argv) {
   } else if (argc == 2 && strlen(argv[1]) == 1 && argv[1][0] >= '1' && argv[1][0] <= '0' + OBLIGATIONS) {
     good = print_words(argv[1][0] - '0');
   } else {
-    fprintf(stderr, "usage: obligations [1 to %d]\n", OBLIGATIONS);
-    return 2;
+    bool asked = argc == 2 && (strcmp(argv[1], "-h") == 0 || strcmp(argv[1], "--help") == 0);
+    fprintf(asked ? stdout : stderr, "usage: obligations [N]\n  N  1 to %d: the runs of that obligation, with more words; without it, one line for each run\n", OBLIGATIONS);
+    return asked ? 0 : 2;
   }
   if (!good) fprintf(stderr, "a count is not what it must be\n");
   return good ? 0 : 1;

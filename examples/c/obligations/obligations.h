@@ -54,9 +54,13 @@ struct pair written(const struct circuit *circuit, struct claim claim);
 /* For the circuit w0 * w1 = x1: an item with the same e and x that holds, and has another witness and root. */
 struct pair twin(const struct pair *pair);
 
-/* Number j of a buffer, read and written. In an item, e is number 0, r is number 1 where m = 1, and x follows, with 1 as its first number. */
+/* Number j of a buffer, read and written. */
 uint32_t number(const uint8_t *bytes, size_t j);
 void put(uint8_t *bytes, size_t j, uint32_t value);
+
+/* An item's e, and x1 for the circuits with m = 0. */
+uint32_t e_of(const struct pair *pair);
+uint32_t x1_of(const struct pair *pair);
 
 /* Puts the root of a pair's witness into its item. */
 void put_root(const struct circuit *circuit, struct pair *pair);

@@ -4,7 +4,7 @@
 
 /* The value of a pair, for the circuit w0 * w1 = x1. */
 static uint32_t value(const struct pair *pair) {
-  return minus(times(number(pair->witness, 0), number(pair->witness, 1)), number(pair->item, 2));
+  return minus(times(number(pair->witness, 0), number(pair->witness, 1)), x1_of(pair));
 }
 
 /* The quotient with which the fold holds at this one challenge. Both items have e = 0, so e has to be Z(a) * quotient. */
@@ -46,7 +46,7 @@ void challenge_not_drawn(struct tally *without, struct tally *with) { try_challe
 static bool bend(struct pair *pair, uint32_t position) {
   uint32_t w0 = number(pair->witness, 0), w1 = number(pair->witness, 1);
   uint32_t v0 = minus(0, point(position)), v1 = 1;
-  uint32_t a = times(v0, v1), b = plus(times(w0, v1), times(w1, v0)), c = minus(value(pair), number(pair->item, 0));
+  uint32_t a = times(v0, v1), b = plus(times(w0, v1), times(w1, v0)), c = minus(value(pair), e_of(pair));
   uint32_t discriminant = minus(times(b, b), times(4, times(a, c)));
   if (!is_square(discriminant)) return false;
   uint32_t s = times(minus(square_root(discriminant), b), inverse(times(2, a)));

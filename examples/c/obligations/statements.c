@@ -4,8 +4,8 @@
 #include "modp.h"
 #include "obligations.h"
 
-/* The test of obligation 1: e is the first number of an item. */
-static bool is_fresh(const struct pair *pair) { return number(pair->item, 0) == 0; }
+/* The test of obligation 1. */
+static bool is_fresh(const struct pair *pair) { return e_of(pair) == 0; }
 
 /* 1. The value of 4 * 5 = 21 is 20 - 21 = p - 1, so with this e the item holds. */
 void e_of_a_fold(struct tally *without, struct tally *with) {

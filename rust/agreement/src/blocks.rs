@@ -2,8 +2,8 @@
 
 use crate::text::{list, Equation, File};
 use lomvuze_reference::sha256::hash;
-use lomvuze_samples::answer::{blocks, verdict};
-use lomvuze_samples::{Chain, Honest, Random, REFERENCE};
+use lomvuze_trials::answer::{blocks, verdict};
+use lomvuze_trials::{Chain, Honest, Random, REFERENCE};
 
 /// The blocks of a message.
 fn of_message(message: &[u8]) -> Equation {

@@ -1,13 +1,12 @@
 //! What the calls answer, and what their output buffers then hold: damaged input that is refused before anything is hashed,
 //! and encoding and deciding for the one witness whose trees are worked out. For verifying, verdict and blocks.
 
-use crate::claims::combined;
 use crate::inputs::{edges, honest_calls, worked_out};
+use crate::inverses::combined;
 use crate::text::{list, Equation, File};
-use lomvuze_reference::calls;
 use lomvuze_reference::field::P;
-use lomvuze_samples::answer::{blocks, verdict};
-use lomvuze_samples::{put, Random};
+use lomvuze_trials::answer::{blocks, verdict};
+use lomvuze_trials::{put, Random, NAMES, REFERENCE};
 use std::collections::BTreeMap;
 
 /// A call with its numbers and then its buffers, of which the last ones are written.
@@ -22,47 +21,12 @@ pub struct Call {
 impl Call {
     /// The reference's answer; it writes to the call's output buffers.
     fn run(&mut self) -> u64 {
-        let n = &self.numbers;
-        let b = &mut self.buffers;
-        let verdict = match self.name {
-            "encode" => {
-                let [points, w, code, root] = &mut b[..] else { panic!() };
-                calls::encode(n[0], points, w, code, root)
-            }
-            "cast" => {
-                let [points, a, b, c, r, x, w, item] = &mut b[..] else { panic!() };
-                calls::cast(n[0], n[1], n[2], points, a, b, c, r, x, w, item)
-            }
-            "quotient" => {
-                let [points, a, b, c, items, wits, quotient] = &mut b[..] else { panic!() };
-                calls::quotient(n[0], n[1], n[2], n[3], points, a, b, c, items, wits, quotient)
-            }
-            "fold" => {
-                let [points, a, b, c, items, wits, quotient, item, wit] = &mut b[..] else { panic!() };
-                calls::fold(n[0], n[1], n[2], n[3], n[4], points, a, b, c, items, wits, quotient, item, wit)
-            }
-            "«open»" => {
-                let [points, w, positions, openings] = &mut b[..] else { panic!() };
-                calls::open(n[0], n[1], points, w, positions, openings)
-            }
-            "interleave" => {
-                let [opened, openings] = &mut b[..] else { panic!() };
-                calls::interleave(n[0], n[1], n[2], opened, openings)
-            }
-            "verify" => {
-                let [items, positions, quotient, item, openings] = &b[..] else { panic!() };
-                let challenge = n[5];
-                return calls::verify(
-                    n[0], n[1], n[2], n[3], n[4], challenge, items, positions, quotient, item, openings,
-                );
-            }
-            "decide" => {
-                let [points, a, b, c, item, wit] = &b[..] else { panic!() };
-                calls::decide(n[0], n[1], n[2], points, a, b, c, item, wit)
-            }
-            name => panic!("{name}"),
-        };
-        verdict.into()
+        let exported = self.name.trim_matches(['«', '»']);
+        let name = NAMES.into_iter().find(|name| name.exported() == exported).expect("a call");
+        let (inputs, outputs) = self.buffers.split_at_mut(name.inputs().len());
+        let inputs: Vec<&[u8]> = inputs.iter().map(|input| &input[..]).collect();
+        let mut outputs: Vec<&mut [u8]> = outputs.iter_mut().map(|output| &mut output[..]).collect();
+        (REFERENCE.call)(name, &self.numbers, &inputs, &mut outputs)
     }
 
     /// Whether the first buffer holds points.
@@ -96,10 +60,21 @@ impl Call {
         let arguments = self.arguments();
         let answer = self.run();
         let verdict = verdict(answer);
+        let (unfolding, mut proof) = self.proof(verdict, &arguments);
+        // Those of verifying prove the verdict: it is none of 0, 8 and 9, and so nothing is hashed.
+        if self.name == "verify" {
+            proof = format!("verify-refused {arguments} {verdict} refl refl refl ({proof})");
+        }
+        let left = format!("{} {arguments}", self.name);
+        (verdict, Equation { left, right: self.result(answer), unfolding, proof })
+    }
+
+    /// What is unfolded, and the proof by it, where the call has this verdict.
+    fn proof(&self, verdict: u32, arguments: &str) -> (String, String) {
         let tests = TESTS;
         // The trees of the one witness: at the built-in points, and at the lent ones.
         let lent = if self.buffers[0].is_empty() { "" } else { "lent-" };
-        let (unfolding, mut proof) = match (self.name, verdict) {
+        match (self.name, verdict) {
             ("encode", 0) => (
                 format!("encodeOver {tests} bytes val ofℕ"),
                 format!("λ i. record {{ answer = 0; code = bytes (map val ({lent}codeword-is i)); root = {lent}root-is i }}"),
@@ -122,20 +97,7 @@ impl Call {
             ),
             // The definition over an instance: the name alone is an abbreviation.
             (name, _) => (format!("{}Over {tests} depth", name.trim_matches(['«', '»'])), "refl".to_string()),
-        };
-        // Those of verifying prove the verdict: it is none of 0, 8 and 9, and so nothing is hashed.
-        if self.name == "verify" {
-            proof = format!("verify-refused {arguments} {verdict} refl refl refl ({proof})");
         }
-        (
-            verdict,
-            Equation {
-                left: format!("{} {arguments}", self.name),
-                right: self.result(answer),
-                unfolding,
-                proof,
-            },
-        )
     }
 
     /// The call's name and verdict, and an equation that the prover can run: for what is not refused before hashing, that
@@ -203,6 +165,25 @@ fn runs_unhashed(name: &str, verdict: u32) -> bool {
         || matches!((name, verdict), ("cast", 11) | ("verify", 7) | ("interleave", 0))
 }
 
+const HEAD: &str = "-- What the calls answer to damaged input, and what their output buffers then hold.
+use mathlib.Core.Path.{_≡_, refl, _∙_}
+use mathlib.Core.List.{List, [], _∷_, map}
+use Rattle.field.specs.BabyBear.{babyBear, val, ofℕ}
+use Rattle.numbers.specs.Numbers.{numbers, allBelow, allDifferent, bytes}
+use Rattle.code.specs.Points.{depth}
+use lib.ListN.{take}
+use Rattle.theory.specs.Checks.{every, answer}
+use Rattle.theory.specs.Combination.{itemAt}
+use Rattle.theory.specs.Calls.{encode as encodeOver, cast as castOver, quotient as quotientOver, fold as foldOver, «open» as openOver, interleave as interleaveOver, decide as decideOver}
+use Rattle.theory.specs.Verify.{verify as verifyOver}
+use Rattle.theory.specs.Fp.{encode, cast, quotient, fold, «open», interleave, verify, decide}
+use Rattle.theory.specs.Fp.{encodeChecks, castChecks, quotientChecks, foldChecks, openChecks, interleaveChecks, verifyChecks, decideChecks}
+use Rattle.agreement.specs.Elements.{listed}
+use Rattle.agreement.specs.Runs.{cast-runs, cast-early, quotient-runs, quotient-early, fold-runs, fold-early, decide-runs, decide-tests, decide-early, verify-runs, verify-refused, verify-early}
+use Rattle.agreement.specs.Inverses.{inverse-0-1, inverse-1-0}
+use Rattle.agreement.specs.Digests.{equation-16 as codeword-is, equation-17 as root-is, equation-34 as lent-codeword-is, equation-35 as lent-root-is}
+";
+
 pub fn answers() -> File {
     let random = &mut Random::new(7);
     let mut equations: Vec<Equation> = worked_out(random).into_iter().map(|call| call.equation().1).collect();
@@ -223,24 +204,5 @@ pub fn answers() -> File {
             }
         }
     }
-    let head = "-- What the calls answer to damaged input, and what their output buffers then hold.
-use mathlib.Core.Path.{_≡_, refl, _∙_}
-use mathlib.Core.List.{List, [], _∷_, map}
-use Rattle.field.specs.BabyBear.{babyBear, val, ofℕ}
-use Rattle.numbers.specs.Numbers.{numbers, allBelow, allDifferent, bytes}
-use Rattle.code.specs.Points.{depth}
-use lib.ListN.{take}
-use Rattle.theory.specs.Checks.{every, answer}
-use Rattle.theory.specs.Combination.{itemAt}
-use Rattle.theory.specs.Calls.{encode as encodeOver, cast as castOver, quotient as quotientOver, fold as foldOver, «open» as openOver, interleave as interleaveOver, decide as decideOver}
-use Rattle.theory.specs.Verify.{verify as verifyOver}
-use Rattle.theory.specs.Fp.{encode, cast, quotient, fold, «open», interleave, verify, decide}
-use Rattle.theory.specs.Fp.{encodeChecks, castChecks, quotientChecks, foldChecks, openChecks, interleaveChecks, verifyChecks, decideChecks}
-use Rattle.agreement.specs.Elements.{listed}
-use Rattle.agreement.specs.Runs.{cast-runs, cast-early, quotient-runs, quotient-early, fold-runs, fold-early, decide-runs, decide-tests, decide-early, verify-runs, verify-refused, verify-early}
-use Rattle.agreement.specs.Inverses.{inverse-0-1, inverse-1-0}
-use Rattle.agreement.specs.Digests.{equation-16 as codeword-is, equation-17 as root-is, equation-34 as lent-codeword-is, equation-35 as lent-root-is}
-"
-    .to_string();
-    File { name: "Answers", head, equations }
+    File { name: "Answers", head: HEAD.to_string(), equations }
 }

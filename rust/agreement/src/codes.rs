@@ -1,10 +1,10 @@
 //! Points, codewords, entries and digests.
 
-use crate::instance::element_bytes;
 use crate::text::{elements, list, numbers, Equation, File};
+use lomvuze_reference::element_bytes;
 use lomvuze_reference::field::{Element, P};
 use lomvuze_reference::{code, sha256, tree};
-use lomvuze_samples::{number_at, points as samples, Random};
+use lomvuze_trials::{number_at, points as samples, Random};
 
 /// The reference's points, proved to be the definition's: first the table of 256, then every (64 / k)-th of them.
 pub fn points() -> String {
@@ -155,13 +155,11 @@ pub fn digest_of(message: String, digest: &sha256::Digest) -> Equation {
     }
 }
 
-/// The digests of one tree, and what they give: its root; the codeword; the root of the witness.
-fn digests_at(lent: &[u8], codeword_numbers: &str, equations: &mut Vec<Equation>) {
-    let w = witness();
-    let codeword = code::codeword(&used(w.len(), lent), &w);
-    // A digest of the current level, and the name of the path from the tree's own term to it.
+/// The digests of one tree: its root, and the name of the path from the tree's own term to it.
+fn tree_digests(codeword: &[Element], equations: &mut Vec<Equation>) -> (sha256::Digest, String) {
+    // A digest of the current level, and the name of the path to it.
     let mut level: Vec<(sha256::Digest, String)> = vec![];
-    for entry in code::entries(&codeword) {
+    for entry in code::entries(codeword) {
         let digest = tree::leaf(&entry);
         level.push((digest, format!("equation-{}", equations.len())));
         equations.push(digest_of(format!("leafString {}", list(entry)), &digest));
@@ -177,13 +175,20 @@ fn digests_at(lent: &[u8], codeword_numbers: &str, equations: &mut Vec<Equation>
         }
         level = next;
     }
-    let (root, path) = &level[0];
+    level.remove(0)
+}
+
+/// The digests of one tree, and what they give: its root; the codeword; the root of the witness.
+fn digests_at(lent: &[u8], codeword_numbers: &str, equations: &mut Vec<Equation>) {
+    let w = witness();
+    let codeword = code::codeword(&used(w.len(), lent), &w);
+    let (root, path) = tree_digests(&codeword, equations);
     let (k, w, codeword) = (w.len(), format!("{} {}", list(lent), elements(&w)), elements(&codeword));
     equations.push(Equation {
         left: format!("root digest (depth {k}) (leaves babyBear sha {codeword})"),
         right: list(root),
         unfolding: "root entry depth val ofℕ".to_string(),
-        proof: path.clone(),
+        proof: path,
     });
     equations.push(Equation {
         left: format!("codewordOf {k} {w}"),

@@ -3,7 +3,7 @@
 
 use crate::text::{list, Equation, File};
 use lomvuze_reference::field::P;
-use lomvuze_samples::{put, Call, Honest, Name, Random, REFERENCE};
+use lomvuze_trials::{put, Call, Honest, Name, Random, REFERENCE};
 use std::collections::BTreeMap;
 
 const NAMES: [Name; 3] = [Name::DrawChallenge, Name::DrawPositions, Name::DrawR];
@@ -68,8 +68,8 @@ fn edges(random: &mut Random, name: Name) -> Vec<Call> {
             }
         }
     }
-    if let (Some(t), Some(a)) = (call.place_of('t'), call.place_of('a')) {
-        let (l, most) = (call.number('l') as u32, 4 * call.number('k') as u32);
+    if let (Some(t), Some(a)) = (call.place_of("t"), call.place_of("challenge")) {
+        let (l, most) = (call.number("l") as u32, 4 * call.number("k") as u32);
         for challenge in [l - 1, l, P - 1, P] {
             add(&|edge| edge.numbers[a] = challenge);
         }

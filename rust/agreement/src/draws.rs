@@ -2,13 +2,14 @@
 //! the digests of their strings.
 
 use crate::codes::{digest_of, USE_SHA_256};
-use crate::instance::{element_bytes, item_bytes, Instance};
+use crate::instance::Instance;
 use crate::text::{list, Equation, File};
 use lomvuze_reference::claims::{self, Item};
 use lomvuze_reference::draws;
 use lomvuze_reference::field::{Element, ONE, P};
 use lomvuze_reference::sha256::{digest, Digest};
-use lomvuze_samples::{bytes, Random};
+use lomvuze_reference::{element_bytes, item_bytes};
+use lomvuze_trials::{bytes, Random};
 
 // ---- The strings that are hashed, as the definitions write them
 

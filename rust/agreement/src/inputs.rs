@@ -2,11 +2,13 @@
 
 use crate::calls::Call;
 use crate::codes;
-use crate::instance::{self, element_bytes, entry_bytes, item_bytes, Instance};
+use crate::instance::{self, entry_bytes, Instance};
+use lomvuze_calls::layout::ItemLayout;
 use lomvuze_reference::claims::{self, Item};
 use lomvuze_reference::code;
 use lomvuze_reference::field::P;
-use lomvuze_samples::{bytes, number_at, points, put, Chain, Honest, Random, REFERENCE};
+use lomvuze_reference::{element_bytes, item_bytes};
+use lomvuze_trials::{bytes, number_at, points, put, Chain, Honest, Random, REFERENCE};
 
 /// An honest list of small sizes, with points or none, and its instance.
 fn honest_list(random: &mut Random) -> (Honest, Instance) {
@@ -131,36 +133,17 @@ fn worked_out_at(random: &mut Random, lent: &[u8], count: usize) -> Vec<Call> {
 pub fn edges(random: &mut Random) -> Vec<Call> {
     let mut all = vec![];
     for call in honest_calls(random) {
-        let n = &call.numbers;
-        let (k, l, rows) = match call.name {
-            "encode" | "«open»" | "interleave" => (n[0], 1, 1),
-            "fold" | "verify" => (n[2], n[3], 1 << n[0]),
-            _ => (n[2], 1, 1 << n[0]),
-        };
         if let "fold" | "verify" = call.name {
+            let l = call.numbers[3];
             for challenge in [l - 1, l, P - 1, P] {
                 let mut edge = call.clone();
                 *edge.numbers.last_mut().unwrap() = challenge;
                 all.push(edge);
             }
         }
-        let circuit = matches!(call.name, "cast" | "quotient" | "fold" | "decide");
         all.extend([edges_of_points(&call), edges_of_first_inputs(&call)].concat());
         for i in 0..call.buffers.len() - call.outputs.len() {
-            let last = call.buffers[i].len().saturating_sub(12);
-            let numbers = match (circuit && (1..4).contains(&i), call.name, i) {
-                (true, _, _) => vec![
-                    (last, rows - 1),
-                    (last, rows),
-                    (last + 4, n[1] + k - 1),
-                    (last + 4, n[1] + k),
-                    (last + 8, P - 1),
-                    (last + 8, P),
-                ],
-                (_, "«open»", 2) | (_, "verify", 1) => vec![(0, 4 * k - 1), (0, 4 * k)],
-                _ => vec![(0, P - 1), (0, P)],
-            };
-            for (at, number) in numbers {
+            for (at, number) in edges_of_buffer(&call, i) {
                 let mut edge = call.clone();
                 if at + 4 <= edge.buffers[i].len() {
                     put(&mut edge.buffers[i], at, number);
@@ -172,9 +155,36 @@ pub fn edges(random: &mut Random) -> Vec<Call> {
     all
 }
 
+/// Numbers at an edge for buffer i, and their places: of the last entry of a list, of the first position, or of the first
+/// element.
+fn edges_of_buffer(call: &Call, i: usize) -> Vec<(usize, u32)> {
+    let n = &call.numbers;
+    let (k, rows) = match call.name {
+        "encode" | "«open»" | "interleave" => (n[0], 1),
+        _ => (n[2], 1 << n[0]),
+    };
+    let circuit = matches!(call.name, "cast" | "quotient" | "fold" | "decide");
+    let last = call.buffers[i].len().saturating_sub(12);
+    match (circuit && (1..4).contains(&i), call.name, i) {
+        (true, _, _) => vec![
+            (last, rows - 1),
+            (last, rows),
+            (last + 4, n[1] + k - 1),
+            (last + 4, n[1] + k),
+            (last + 8, P - 1),
+            (last + 8, P),
+        ],
+        (_, "«open»", 2) | (_, "verify", 1) => vec![(0, 4 * k - 1), (0, 4 * k)],
+        _ => vec![(0, P - 1), (0, P)],
+    }
+}
+
 /// First inputs other than 1: of the lent x, or of each item by itself, the new one too.
 fn edges_of_first_inputs(call: &Call) -> Vec<Call> {
-    let item = |m: u32, n: u32| (4 + 4 * m as usize, (4 + 4 * m + 4 * n + 32) as usize);
+    let item = |m: u32, n: u32| {
+        let layout = ItemLayout { m, n };
+        (layout.first_input().start, layout.bytes())
+    };
     // Which buffers have first inputs, where the first one stands, and how far the next one is.
     let (buffers, (first, length)) = match (call.name, &call.numbers[..]) {
         ("cast", _) => (&[5][..], (0, usize::MAX)),

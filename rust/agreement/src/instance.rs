@@ -3,7 +3,7 @@
 use lomvuze_reference::claims::{self, Circuit, Entry, Item};
 use lomvuze_reference::code;
 use lomvuze_reference::field::Element;
-use lomvuze_samples::{bytes, Random};
+use lomvuze_trials::{bytes, Random};
 
 /// Items with witnesses for one circuit; every item has 1 as first input, holds, and matches at the built-in points.
 pub struct Instance {
@@ -43,14 +43,6 @@ impl Instance {
     }
 }
 
-pub fn element_bytes(elements: &[Element]) -> Vec<u8> {
-    bytes(&elements.iter().map(|element| element.number()).collect::<Vec<_>>())
-}
-
 pub fn entry_bytes(list: &[Entry]) -> Vec<u8> {
     bytes(&list.iter().flat_map(|entry| [entry.row, entry.column, entry.value.number()]).collect::<Vec<_>>())
-}
-
-pub fn item_bytes(item: &Item) -> Vec<u8> {
-    [element_bytes(&[item.e]), element_bytes(&item.r), element_bytes(&item.x), item.root.to_vec()].concat()
 }

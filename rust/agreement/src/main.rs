@@ -11,6 +11,7 @@ mod drawing;
 mod draws;
 mod inputs;
 mod instance;
+mod inverses;
 mod text;
 
 use std::{env, fs, io, path::Path};
@@ -33,18 +34,7 @@ fn main() -> io::Result<()> {
         draws,
         drawing::answers(),
     ];
-
-    fs::create_dir_all(folder.join("src"))?;
-    fs::create_dir_all(folder.join("specs"))?;
-    fs::write(
-        folder.join("src/lib.rt"),
-        "// Equations between definitions and numbers, each checked by computation.\n",
-    )?;
-    fs::write(folder.join("specs/Elements.antt"), include_str!("../Elements.antt.in"))?;
-    fs::write(folder.join("specs/Runs.antt"), include_str!("../Runs.antt.in"))?;
-    fs::write(folder.join("specs/Inverses.antt"), claims::inverses())?;
-    fs::write(folder.join("specs/Points.antt"), codes::points())?;
-    let mut names = vec!["Elements", "Runs", "Inverses", "Points"];
+    let mut names = write_common(folder)?;
     let mut total = 0;
     for file in &files {
         fs::write(folder.join(format!("specs/{}.antt", file.name)), file.text())?;
@@ -56,4 +46,19 @@ fn main() -> io::Result<()> {
     fs::write(folder.join("specs/Lib.antt"), modules)?;
     println!("equations\t{total}");
     Ok(())
+}
+
+/// Writes the files that the equations rest on, and gives the names of those that are specifications.
+fn write_common(folder: &Path) -> io::Result<Vec<&'static str>> {
+    fs::create_dir_all(folder.join("src"))?;
+    fs::create_dir_all(folder.join("specs"))?;
+    fs::write(
+        folder.join("src/lib.rt"),
+        "// Equations between definitions and numbers, each checked by computation.\n",
+    )?;
+    fs::write(folder.join("specs/Elements.antt"), include_str!("../Elements.antt.in"))?;
+    fs::write(folder.join("specs/Runs.antt"), include_str!("../Runs.antt.in"))?;
+    fs::write(folder.join("specs/Inverses.antt"), inverses::inverses())?;
+    fs::write(folder.join("specs/Points.antt"), codes::points())?;
+    Ok(vec!["Elements", "Runs", "Inverses", "Points"])
 }

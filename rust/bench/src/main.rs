@@ -6,13 +6,13 @@
 //! code, or OpenSSL, takes longer. What is measured is the thread's processor time, so that other work on the machine
 //! disturbs it less.
 
-use bench::{openssl_rows, rows, runs};
+use bench::{openssl_rows, rows, runs, table::ROUNDS};
 
 fn main() {
     match std::env::args().nth(1).as_deref() {
         None => runs::print_tables(),
-        Some(rows::ARGUMENT) => rows::measure(),
-        Some(openssl_rows::ARGUMENT) => openssl_rows::measure(),
+        Some(rows::ARGUMENT) => rows::measure(ROUNDS),
+        Some(openssl_rows::ARGUMENT) => openssl_rows::measure(ROUNDS),
         Some(other) => panic!("no argument is expected, and not {other}"),
     }
 }

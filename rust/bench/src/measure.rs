@@ -13,6 +13,15 @@ fn seconds<T>(calls: u32, work: &mut impl FnMut() -> T) -> f64 {
     (clock::seconds() - start) / calls as f64
 }
 
+/// The least seconds of a round: long beside reading the clock.
+const ROUND: f64 = 150e-6;
+
+/// How many calls of `work` a round takes.
+pub fn calls_of_a_round<T>(work: &mut impl FnMut() -> T) -> u32 {
+    let one = (0..3).map(|_| seconds(1, work)).fold(f64::MAX, f64::min);
+    (ROUND / one).ceil() as u32
+}
+
 /// Seconds that one call of each takes in its best round. The rounds alternate between the two.
 pub fn best<T>(
     rounds: usize,

@@ -1,22 +1,32 @@
 //! Rows of the benchmark: two times of one run, and how a table shows them.
 
-use crate::measure::best;
+use crate::measure::{best, calls_of_a_round};
 use std::fmt::Debug;
 
-const ROUNDS: usize = 100;
+/// The rounds of a row in one run of the program.
+pub const ROUNDS: usize = 100;
 
-/// Measures a row in this run of the program, and writes it as a line. A call does `steps` steps. Both results agree.
-pub fn compare<T: PartialEq + Debug>(
-    name: &str,
-    calls: u32,
-    steps: u32,
-    mut first: impl FnMut() -> T,
-    mut plain: impl FnMut() -> T,
-) {
-    assert_eq!(first(), plain(), "{name}");
-    let (first, plain) = best(ROUNDS, calls, first, plain);
-    let nanoseconds = |seconds: f64| 1e9 * seconds / steps as f64;
-    println!("{name}\t{}\t{}", nanoseconds(first), nanoseconds(plain));
+/// A row that is to be measured.
+pub struct Line<'a> {
+    pub name: &'a str,
+    pub rounds: usize,
+}
+
+impl Line<'_> {
+    /// Measures the row, and writes it as a line. A call does `steps` steps. Both results agree.
+    pub fn compare<T: PartialEq + Debug>(
+        &self,
+        steps: u32,
+        mut first: impl FnMut() -> T,
+        mut plain: impl FnMut() -> T,
+    ) {
+        let Line { name, rounds } = self;
+        assert_eq!(first(), plain(), "{name}");
+        let calls = calls_of_a_round(&mut first);
+        let (first, plain) = best(*rounds, calls, first, plain);
+        let nanoseconds = |seconds: f64| 1e9 * seconds / steps as f64;
+        println!("{name}\t{}\t{}", nanoseconds(first), nanoseconds(plain));
+    }
 }
 
 /// A row of one run. The times are nanoseconds, the second that of plain Rust.

@@ -1,21 +1,19 @@
-//! The plain calls beside the reference: without points and with points that are lent; with points that check 12 refuses,
-//! and first inputs that check 13 refuses, alone and with later checks failing too; verifying and drawing with each check
-//! failing. And the plain SHA-256, running too, and the plain reader of sheets.
+//! The plain calls beside the proved ones: without points and with points that are lent; with points that check 12 refuses,
+//! and first inputs that check 13 refuses, alone and with later checks failing too; drawing with each check failing. And the
+//! running hash and the plain reader of sheets beside the reference.
 
-use bench::{calls, plain, plain_sheet, points::differ, running};
-use lomvuze_reference::sha256::{hash, Hashed};
-use lomvuze_reference::sheet::{self, write};
-use lomvuze_reference::tree;
-use lomvuze_samples::sheet::damage::failing;
-use lomvuze_samples::sheet::{accepted, Buffers, Shape};
-use lomvuze_samples::{library, points, Call, Comparison, Honest, Library, Name, Random, NAMES, REFERENCE};
-
-const PLAIN: Library = library!(calls);
+use bench::plain::{calls, points::differ, running};
+use bench::rows::{read_sheet, PLAIN, PROVED};
+use lomvuze_reference::sheet::{self, write, Reading};
+use lomvuze_reference::{sha256, tree};
+use lomvuze_trials::sheet::damage::failing;
+use lomvuze_trials::sheet::{accepted, Buffers, Shape};
+use lomvuze_trials::{points, Call, Comparison, Honest, Name, Random, NAMES};
 
 #[test]
 fn points_and_first_inputs() {
     let mut random = Random::new(1);
-    let mut comparison = Comparison::new(&PLAIN, &REFERENCE);
+    let mut comparison = Comparison::new(&PLAIN, &PROVED);
     for name in NAMES {
         for lent in [vec![], points::built_in(64), points::different(&mut random, 64)] {
             let list = Honest::random(&mut random, 2, 3, 64, 2).lent(lent);
@@ -33,25 +31,12 @@ fn points_and_first_inputs() {
     }
 }
 
-/// Verdicts and blocks of verifying.
-#[test]
-fn verify() {
-    let mut random = Random::new(3);
-    let mut comparison = Comparison::new(&PLAIN, &REFERENCE);
-    for l in 1..=8 {
-        let list = Honest::random(&mut random, 2, 3, 64, l);
-        let call = Call::over(&mut random, Name::Verify, list, 3);
-        comparison.compare_checks(&mut random, &call);
-    }
-    comparison.finish(Name::Verify, 8);
-}
-
 /// Drawing, of the least and the greatest sizes and of others.
 #[test]
 fn draws() {
     let mut random = Random::new(5);
     for name in [Name::DrawChallenge, Name::DrawPositions, Name::DrawR] {
-        let mut comparison = Comparison::new(&PLAIN, &REFERENCE);
+        let mut comparison = Comparison::new(&PLAIN, &PROVED);
         for (m, n, l, t) in [(0, 1, 1, 1), (1, 2, 2, 3), (2, 4, 5, 64), (3, 17, 7, 255), (6, 64, 8, 256)] {
             for _ in 0..20 {
                 let list = Honest::random(&mut random, m, n, 64, l);
@@ -63,14 +48,13 @@ fn draws() {
     }
 }
 
-/// Digests and blocks of messages.
+/// Digests of messages that are fed in by pieces.
 #[test]
-fn hashes() {
+fn running_hashes() {
     let mut random = Random::new(4);
     for length in (0..=200).chain([1000, 4096, 65_537]) {
         let message = random.bytes(length);
-        let Hashed { digest, blocks } = hash(&message);
-        assert_eq!(plain::sha256(&message), (digest, blocks), "{length} bytes");
+        let digest = sha256::digest(&message);
         for step in [1, 31, 32, 63, 64, 65, 100, 128, 129, length + 1] {
             assert_eq!(running::hash(&message, step), digest, "{length} bytes by {step}");
         }
@@ -90,8 +74,9 @@ fn sheets() {
         for text in [write(&says)].iter().chain(&texts) {
             let mut by_plain = Buffers::new(Buffers::LENGTHS);
             let mut by_reference = by_plain.clone();
-            let reading = by_reference.read(sheet::read, text);
-            assert_eq!(by_plain.read(plain_sheet::read, text).0, reading.answer, "{}", text.escape_ascii());
+            let Reading { answer, m, n, k, a, b, c, pairs } = by_reference.read(sheet::read, text);
+            let plain = read_sheet(calls::read_sheet, text, &mut by_plain);
+            assert_eq!(plain, (answer, [m, n, k, a, b, c, pairs]), "{}", text.escape_ascii());
             assert!(by_plain == by_reference, "{}", text.escape_ascii());
         }
     }

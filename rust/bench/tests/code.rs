@@ -1,8 +1,8 @@
 //! The plain code beside the reference.
 
-use bench::plain;
+use bench::plain::code as plain;
 use lomvuze_reference::code;
-use lomvuze_samples::Random;
+use lomvuze_trials::Random;
 
 #[test]
 fn codewords() {

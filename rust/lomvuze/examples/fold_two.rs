@@ -5,15 +5,19 @@
 //! `cargo run --release --offline -p lomvuze --example fold_two -- [CHALLENGE]`
 //!
 //! The challenge is the drawn one where none is given. The exit status is 0 where every call accepts, 1 where one
-//! refuses, and 2 where the challenge is no number.
+//! refuses, and 2 where the argument is no number.
 
 use lomvuze::{cast, decide, draw_challenge, draw_positions, draw_r, encode, fold, open, quotient, verify};
-use lomvuze::{Challenge, Circuit, Item, Opening, Points, PublicInputs, Refusal, Sizes, Verified, Witness};
+use lomvuze::{
+    Challenge, Circuit, Item, Opening, Points, PublicInputs, Refusal, Sizes, Verified, Witness, P,
+};
 use std::env::args_os;
 use std::process::ExitCode;
 
 fn main() -> ExitCode {
-    let Ok(lent) = args_os().nth(1).map(|text| text.to_string_lossy().parse::<u32>()).transpose() else {
+    let argument = args_os().nth(1).map(|text| text.to_string_lossy().into_owned());
+    let Ok(lent) = argument.as_ref().map(|text| text.parse::<u32>()).transpose() else {
+        eprintln!("fold_two: '{}' is no number of 32 bits", argument.unwrap_or_default());
         eprintln!("usage: fold_two [CHALLENGE]");
         return ExitCode::from(2);
     };
@@ -31,8 +35,7 @@ fn run(lent: Option<Challenge>) -> Result<(), Refusal> {
     // One row: w0 × w1 = x1, where x0 is 1. The columns are x0, x1, w0 and w1; an entry is row, column and value.
     let sizes = Sizes { m: 0, n: 2, k: 2 };
     let circuit = Circuit::new([(0, 2, 1)], [(0, 3, 1)], [(0, 1, 1)]);
-    // The evaluation points that were agreed on: here those of the library.
-    let points = Points::built_in();
+    let points = Points::built_in(); // that were agreed on: here those of the library
     let witnesses = [Witness::from([2, 3]), Witness::from([4, 5])];
     let items = [
         cast_drawn(sizes, &points, &circuit, &PublicInputs::from([1, 6]), &witnesses[0])?,
@@ -52,10 +55,10 @@ fn run(lent: Option<Challenge>) -> Result<(), Refusal> {
 
     // And the positions from these and the new root. They repeat: 4k are drawn, of which k at least have to be different.
     let (l, t) = (items.len(), 4 * sizes.k as usize);
-    let positions = draw_positions(sizes.k, l, t, challenge, &drawn.seed, &folded.item.root)?;
+    let positions = draw_positions(sizes, l, t, challenge, &drawn.seed, &folded.item.root)?;
     println!("positions: {positions}, {} different", positions.count_different());
     assert!(positions.count_different() >= sizes.k as usize);
-    let opened = witnesses.iter().chain([&folded.witness]).map(|w| open(sizes.k, &points, w, &positions));
+    let opened = witnesses.iter().chain([&folded.witness]).map(|w| open(sizes, &points, w, &positions));
     let openings = opened.collect::<Result<Vec<_>, _>>()?;
     openings.iter().enumerate().for_each(|(i, opened)| print_openings(i, opened));
 
@@ -65,6 +68,7 @@ fn run(lent: Option<Challenge>) -> Result<(), Refusal> {
     println!("verify: accepted; {blocks} of at most {} SHA-256 blocks", sizes.verify_blocks(l, t));
     decide(sizes, &points, &circuit, &folded.item, &folded.witness)?;
     println!("decide: accepted\ncovered: 2 of 2 items, 0 and 1");
+    print_bound(sizes, l);
     Ok(())
 }
 
@@ -76,8 +80,14 @@ fn cast_drawn(
     x: &PublicInputs,
     witness: &Witness,
 ) -> Result<Item, Refusal> {
-    let root = encode(sizes.k, points, witness)?.root;
+    let root = encode(sizes, points, witness)?.root;
     cast(sizes, points, circuit, &draw_r(sizes, &root, x)?, x, witness)
+}
+
+/// Covered is not true.
+fn print_bound(sizes: Sizes, l: usize) {
+    let (bound, permitted, k) = (sizes.challenge_bound(l), P as usize - l, sizes.k);
+    println!("at up to {bound} of the {permitted} challenges a list with a false item can pass, for one quotient and one set of {k} positions (more by a SHA-256 collision)");
 }
 
 fn print_item(name: &str, item: &Item) {

@@ -4,8 +4,10 @@
 //! have a length themselves is passed as an empty buffer where one has another length: its bytes would be those
 //! of other parts. No call permits an empty buffer there.
 
-use crate::sizes::{MAX_ENTRIES, MAX_L, MOST_NUMBERS};
+use crate::sizes::{MAX_ENTRIES, MAX_K, MAX_L, MAX_M, MAX_N, MOST_NUMBERS};
 use crate::{numbers_to_bytes, Circuit, Entry, Item, Opening, Sizes, Witness};
+use alloc::vec;
+use alloc::vec::Vec;
 
 /// Points, r, x, one witness, positions or a quotient.
 pub(crate) fn numbers_buffer(numbers: &[u32]) -> Vec<u8> {
@@ -21,7 +23,7 @@ pub(crate) fn circuit_buffers(circuit: &Circuit) -> [Vec<u8>; 3] {
 pub(crate) fn items_buffer(sizes: Sizes, items: &[Item]) -> Vec<u8> {
     let items = up_to(items, MAX_L + 1);
     let fits = |item: &Item| item.r.len() == sizes.m as usize && item.x.len() == sizes.n as usize;
-    if !sizes.are_within_limits() || !items.iter().all(fits) {
+    if sizes.m > MAX_M || sizes.n > MAX_N || !items.iter().all(fits) {
         return vec![];
     }
     items.iter().flat_map(Item::to_bytes).collect()
@@ -30,7 +32,7 @@ pub(crate) fn items_buffer(sizes: Sizes, items: &[Item]) -> Vec<u8> {
 pub(crate) fn witnesses_buffer(sizes: Sizes, witnesses: &[Witness]) -> Vec<u8> {
     let witnesses = up_to(witnesses, MAX_L + 1);
     let fits = |witness: &Witness| witness.len() == sizes.k as usize;
-    if !sizes.are_within_limits() || !witnesses.iter().all(fits) {
+    if sizes.k > MAX_K || !witnesses.iter().all(fits) {
         return vec![];
     }
     witnesses.iter().flat_map(Witness::to_bytes).collect()
@@ -41,7 +43,7 @@ pub(crate) fn opened_buffer(sizes: Sizes, t: usize, openings: &[impl AsRef<[Open
     let openings: Vec<&[Opening]> = up_to(openings, MAX_L + 2).iter().map(AsRef::as_ref).collect();
     let fits = |opening: &Opening| opening.path.len() == sizes.depth();
     let all_fit = |of_one: &&[Opening]| of_one.len() == t && of_one.iter().all(fits);
-    if !sizes.are_within_limits() || t > MOST_NUMBERS || !openings.iter().all(all_fit) {
+    if sizes.k > MAX_K || t > MOST_NUMBERS || !openings.iter().all(all_fit) {
         return vec![];
     }
     openings.into_iter().flatten().flat_map(Opening::to_bytes).collect()

@@ -1,7 +1,7 @@
 //! What drawing a challenge gives.
 
 use crate::{Challenge, Digest};
-use std::fmt;
+use core::fmt;
 
 /// A challenge and its seed, from [`draw_challenge`](crate::draw_challenge).
 #[derive(Clone, Copy, PartialEq, Eq, Hash, Debug)]
@@ -15,25 +15,31 @@ pub struct Drawn {
 
 /// The digest of sizes, items and quotient, from which a challenge and then the positions are drawn.
 ///
-/// Only [`draw_challenge`](crate::draw_challenge) makes one: who draws positions has drawn the seed before, from the items
-/// and the quotient that are verified. One that was stored or sent is drawn again.
+/// [`draw_challenge`](crate::draw_challenge) gives it. Who verifies a fold draws it, from the items and the quotient that
+/// are verified: any bytes make a seed, and nothing tests whose digest they are. One that was stored or sent is compared
+/// with the drawn one.
 ///
 /// ```
-/// use lomvuze::{draw_challenge, Digest, Item, PublicInputs, Quotient, Refusal, Sizes, R};
+/// use lomvuze::{draw_challenge, Digest, Item, PublicInputs, Quotient, Refusal, Seed, Sizes, R};
 ///
 /// fn main() -> Result<(), Refusal> {
 ///     let item = Item::new(R::default(), PublicInputs::from([1, 6]), [7; 32]);
 ///     let drawn = draw_challenge(Sizes { m: 0, n: 2, k: 2 }, &[item], &Quotient::default())?;
-///     let bytes: &Digest = drawn.seed.as_bytes();
-///     assert_eq!(drawn.seed.to_string()[..4], format!("{:02x}{:02x}", bytes[0], bytes[1]));
+///     let stored: Digest = *drawn.seed.as_bytes();
+///     assert_eq!(drawn.seed.to_string()[..4], format!("{:02x}{:02x}", stored[0], stored[1]));
+///     assert_eq!(Seed::from(stored), drawn.seed);
+///     assert_ne!(Seed::from([7; 32]), drawn.seed);
 ///     Ok(())
 /// }
 /// ```
 ///
-/// ```compile_fail
-/// use lomvuze::Seed;
+/// Seed and root are both digests, and none is taken for the other:
 ///
-/// let _ = Seed::from([7; 32]); // no other bytes are a seed
+/// ```compile_fail
+/// use lomvuze::{draw_positions, Challenge, Seed, Sizes};
+///
+/// let (root, seed) = ([7; 32], Seed::from([8; 32]));
+/// let _ = draw_positions(Sizes { m: 0, n: 2, k: 2 }, 2, 8, Challenge::from(3), &root, &seed);
 /// ```
 #[derive(Clone, Copy, PartialEq, Eq, Hash, Debug)]
 pub struct Seed(Digest);
@@ -43,11 +49,11 @@ impl Seed {
     pub fn as_bytes(&self) -> &Digest {
         &self.0
     }
+}
 
-    /// What the library wrote. Tests lend other bytes too.
-    #[doc(hidden)]
-    pub fn lent(bytes: Digest) -> Seed {
-        Seed(bytes)
+impl From<Digest> for Seed {
+    fn from(digest: Digest) -> Seed {
+        Seed(digest)
     }
 }
 

@@ -1,7 +1,9 @@
 //! The byte layout of `include/lomvuze.h`: all that converts to it and from it.
 
-use crate::{Digest, Entry, Item, Opening, Refusal, Sizes};
-use std::iter::once;
+use crate::{Digest, Entry, Item, Opening, PublicInputs, Refusal, Sizes, R};
+use alloc::vec;
+use alloc::vec::Vec;
+use lomvuze_calls::layout::{ItemLayout, DIGEST_BYTES, NUMBER_BYTES};
 
 /// Numbers in four bytes each, lowest first.
 ///
@@ -25,7 +27,11 @@ pub fn numbers_to_bytes(numbers: &[u32]) -> Vec<u8> {
 /// assert_eq!(numbers_from_bytes(&[2, 1, 0]), Err(Refusal::Sizes));
 /// ```
 pub fn numbers_from_bytes(bytes: &[u8]) -> Result<Vec<u32>, Refusal> {
-    bytes.chunks(4).map(|number| Ok(u32::from_le_bytes(exactly(number)?))).collect()
+    bytes.chunks(NUMBER_BYTES).map(number).collect()
+}
+
+fn number(bytes: &[u8]) -> Result<u32, Refusal> {
+    Ok(u32::from_le_bytes(exactly(bytes)?))
 }
 
 /// The bytes as an array of their length.
@@ -68,8 +74,13 @@ impl Entry {
 impl Item {
     /// e, r, x and root.
     pub fn to_bytes(&self) -> Vec<u8> {
-        let numbers: Vec<u32> = once(&self.e).chain(&self.r).chain(&self.x).copied().collect();
-        [&numbers_to_bytes(&numbers)[..], &self.root].concat()
+        let layout = ItemLayout { m: self.r.len() as u32, n: self.x.len() as u32 };
+        let mut bytes = vec![0; layout.bytes()];
+        bytes[layout.e()].copy_from_slice(&self.e.to_le_bytes());
+        bytes[layout.r()].copy_from_slice(&self.r.to_bytes());
+        bytes[layout.x()].copy_from_slice(&self.x.to_bytes());
+        bytes[layout.root()].copy_from_slice(&self.root);
+        bytes
     }
 
     /// Reads what [`to_bytes`](Item::to_bytes) writes.
@@ -87,14 +98,16 @@ impl Item {
     /// assert_eq!(Item::from_bytes(Sizes { m: 1, ..sizes }, &item.to_bytes()), Err(Refusal::Sizes));
     /// ```
     pub fn from_bytes(sizes: Sizes, bytes: &[u8]) -> Result<Item, Refusal> {
-        if bytes.len() != sizes.item_bytes() {
+        let layout = sizes.item_layout();
+        if bytes.len() != layout.bytes() {
             return Err(Refusal::Sizes);
         }
-        let (numbers, root) = bytes.split_last_chunk().ok_or(Refusal::Sizes)?;
-        let numbers = numbers_from_bytes(numbers)?;
-        let (e, r_x) = numbers.split_first().ok_or(Refusal::Sizes)?;
-        let (r, x) = r_x.split_at_checked(sizes.m as usize).ok_or(Refusal::Sizes)?;
-        Ok(Item { e: *e, r: r.into(), x: x.into(), root: *root })
+        Ok(Item {
+            e: number(&bytes[layout.e()])?,
+            r: R::from_bytes(&bytes[layout.r()])?,
+            x: PublicInputs::from_bytes(&bytes[layout.x()])?,
+            root: exactly(&bytes[layout.root()])?,
+        })
     }
 }
 
@@ -108,20 +121,25 @@ impl Opening {
     ///
     /// # Errors
     ///
-    /// [`Refusal::Sizes`] where there are not 4 bytes and whole digests.
+    /// [`Refusal::Sizes`] where there are not [`Sizes::opening_bytes`] bytes.
     ///
     /// ```
-    /// use lomvuze::{Opening, Refusal};
+    /// use lomvuze::{Opening, Refusal, Sizes};
     ///
+    /// let sizes = Sizes { m: 0, n: 2, k: 2 };
     /// let opening = Opening { value: 258, path: vec![[7; 32]; 3] };
     /// assert_eq!(opening.to_bytes()[..5], [2, 1, 0, 0, 7]);
-    /// assert_eq!(Opening::from_bytes(&opening.to_bytes()), Ok(opening));
-    /// assert_eq!(Opening::from_bytes(&[2, 1, 0, 0, 7]), Err(Refusal::Sizes));
+    /// assert_eq!(Opening::from_bytes(sizes, &opening.to_bytes()), Ok(opening.clone()));
+    /// assert_eq!(Opening::from_bytes(Sizes { k: 4, ..sizes }, &opening.to_bytes()), Err(Refusal::Sizes));
     /// ```
-    pub fn from_bytes(bytes: &[u8]) -> Result<Opening, Refusal> {
-        let (value, path) = bytes.split_first_chunk().ok_or(Refusal::Sizes)?;
-        let path: Result<Vec<Digest>, Refusal> = path.chunks(32).map(exactly).collect();
-        Ok(Opening { value: u32::from_le_bytes(*value), path: path? })
+    pub fn from_bytes(sizes: Sizes, bytes: &[u8]) -> Result<Opening, Refusal> {
+        let layout = sizes.opening_layout();
+        if bytes.len() != layout.bytes() {
+            return Err(Refusal::Sizes);
+        }
+        let path: Result<Vec<Digest>, Refusal> =
+            bytes[layout.siblings()].chunks(DIGEST_BYTES).map(exactly).collect();
+        Ok(Opening { value: number(&bytes[layout.value()])?, path: path? })
     }
 }
 
@@ -130,13 +148,5 @@ impl TryFrom<&[u8]> for Entry {
 
     fn try_from(bytes: &[u8]) -> Result<Entry, Refusal> {
         Entry::from_bytes(bytes)
-    }
-}
-
-impl TryFrom<&[u8]> for Opening {
-    type Error = Refusal;
-
-    fn try_from(bytes: &[u8]) -> Result<Opening, Refusal> {
-        Opening::from_bytes(bytes)
     }
 }

@@ -1,14 +1,15 @@
 // On the page of the crate these stand for the paths of README.md: of a name that is defined twice, the first one
 // counts.
 //! [examples/fold_two.rs]: examples::fold_two
-//! [examples/fold_sheet.rs]: examples::fold_sheet
+//! [examples/fold_sheet]: examples::fold_sheet
 //! [docs/SHEETS.md]: read_sheet
+//! [docs/OBLIGATIONS.md]: crate#what-the-caller-sees-to
 //!
 #![doc = include_str!("../README.md")]
 //!
 //! ## The calls
 //!
-//! In the order of use:
+//! In the order of use, and two that a chain does not need:
 //!
 //! - [`encode`]: the codeword and root of a witness
 //! - [`draw_r`]: r of an item, from its root and public inputs
@@ -21,50 +22,24 @@
 //!   the same positions
 //! - [`verify`]: tests a fold, without circuit or witness, and counts the SHA-256 blocks that this takes
 //! - [`decide`]: tests one item, such as the last new one, with its circuit and witness
-//!
-//! And [`interleave`], the openings in the order of a verifier in C, and [`read_sheet`], sizes, circuit, items and
-//! witnesses from a sheet of text.
-//!
-//! [`encode`], [`cast`], [`quotient`], [`fold`], [`open`] and [`decide`] take the evaluation points of the code:
-//! [`Points::built_in`], or the caller's own.
+//! - [`interleave`]: the openings in the order of a verifier in C
+//! - [`read_sheet`]: sizes, circuit, items and witnesses from a sheet of text
 //!
 //! A call returns the [`Refusal`] of the first of its checks that fails; [`verify`] has it in the verdict of [`Verified`].
 //! Each check covers the whole input before the next one runs.
 //!
 //! ## What the caller sees to
 //!
-//! The calls are about items. That a verdict on items is one about a ledger takes things that no call can test:
+//! The calls are about items. That a verdict on items is one about a ledger takes things that no call can test, and drawing
+//! settles a part of them: `docs/OBLIGATIONS.md` of the repository has them all, with their reasons. An installation has it
+//! as `share/doc/lomvuze/docs/OBLIGATIONS.md`. The types help with these:
 //!
-//! - A fresh item has e = 0 ([`Item::is_fresh`]). Any other e is that of a fold which the caller verified.
-//! - r is drawn or picked after x and root are fixed, the challenge after items and quotient; neither is picked by who
-//!   hands these in.
-//! - At least k of the positions differ ([`Positions::count_different`]), all folds of a list open the same k, and these
-//!   are not picked by who hands in the items: 0 to k − 1 will do. Where each fold has its own, they are drawn.
-//! - [`verify`] and [`decide`] get the same sizes and the same new item, [`decide`] the circuit that was agreed on, and
-//!   both accept: the verdict of [`verify`] counts, and its blocks say nothing about the items.
-//! - Every call that takes points is lent the same ones, which were agreed on.
-//! - A verdict covers the items of its fold and no others. More than 8 take several folds: [`examples::fold_sheet`]
-//!   says which are covered.
-//! - Where a new item is folded again, the verdict on the upper fold is about that item. It reaches the items of the
-//!   lower fold only if that was verified with the very item that is folded above, and both open the same k positions.
-//!
-//! ## What drawing settles
-//!
-//! [`draw_r`], [`draw_challenge`] and [`draw_positions`] draw by SHA-256 what a clearing house would otherwise pick and
-//! send. All other calls take such numbers lent, drawn or not. Where the clearing house draws them itself, from the very
-//! bytes that it verifies, nobody picks them, and they follow from what they test: r from root and x, the challenge from
-//! items and quotient, the positions from these, the challenge and the new item's root. Drawing does not settle
-//!
-//! - how many were tried. Who makes items, quotient or new root can change them and draw again, as often as wanted. For
-//!   two items or more, and the same k positions at each try, some 2^31 / ((l − 1) × (m + 2)) tries find a challenge at which
-//!   a false item passes. No theorem is about this: what many challenges show is stated of lent ones.
-//! - that a seed is that of the items and the quotient that are verified. Drawing alone makes a [`Seed`], but it may be that
-//!   of another fold.
-//! - that there are k different positions: drawn ones repeat.
-//! - circuit and points. They are in no draw, and are agreed on beforehand.
-//! - that an item's r is the drawn one: somebody compares it, or puts it in.
-//!
-//! All else that the caller sees to stays as it is.
+//! - [`Item::is_fresh`]: whether e is 0, as in every item that is no result of a fold.
+//! - [`Positions::count_different`]: of the positions of a fold, at least k have to differ.
+//! - [`Sizes::challenge_bound`]: at how many challenges a list with a false item can pass, for one quotient and one set of k
+//!   positions, but for a SHA-256 collision.
+//! - [`Verified`]: the verdict beside the blocks, which say nothing about the items.
+//! - [`examples::fold_sheet`]: which statements that were expected no verdict covers.
 //!
 //! ## Types
 //!
@@ -72,12 +47,13 @@
 //! are made from arrays, slices and vectors, and read as slices; none is taken for another:
 //!
 //! ```compile_fail
-//! use lomvuze::{encode, Points, Positions};
+//! use lomvuze::{encode, Points, Positions, Sizes};
 //!
-//! let _ = encode(2, &Points::built_in(), &Positions::from([2, 3])); // positions are no witness
+//! let sizes = Sizes { m: 0, n: 2, k: 2 };
+//! let _ = encode(sizes, &Points::built_in(), &Positions::from([2, 3])); // positions are no witness
 //! ```
 //!
-//! A [`Seed`] is made by drawing alone.
+//! A [`Seed`] is a type of its own too: no root is taken for it.
 //!
 //! ## Sizes
 //!
@@ -99,8 +75,11 @@
 //!   gets at most the length that the greatest sizes give; of a list that is too long, only so much is copied
 //!   that check 2 refuses it.
 
+#![no_std]
 #![forbid(unsafe_code)]
 #![deny(missing_docs)]
+
+extern crate alloc;
 
 mod buffers;
 mod calls;
@@ -126,6 +105,18 @@ pub mod examples {
     #[doc = concat!("```\n", include_str!("../examples/fold_two.rs"), "```")]
     pub mod fold_two {}
 
-    #[doc = concat!("```\n", include_str!("../examples/fold_sheet.rs"), "```")]
+    /// `main.rs`
+    ///
+    #[doc = concat!("```\n", include_str!("../examples/fold_sheet/main.rs"), "```")]
+    ///
+    /// `folding.rs`
+    ///
+    #[doc = concat!("```\n", include_str!("../examples/fold_sheet/folding.rs"), "```")]
+    ///
+    /// `expected.rs`
+    ///
+    #[doc = concat!("```\n", include_str!("../examples/fold_sheet/expected.rs"), "```")]
+    ///
+    /// Beside them are `options.rs`, `circuit.rs` and `sha256.rs`.
     pub mod fold_sheet {}
 }

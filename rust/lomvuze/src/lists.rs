@@ -1,11 +1,11 @@
 //! Lists of numbers: a type for each kind, so that none is passed in the place of another.
 
 use crate::{numbers_from_bytes, numbers_to_bytes, Refusal};
-use std::collections::BTreeSet;
-use std::fmt;
-use std::ops::{Deref, DerefMut};
-use std::slice::Iter;
-use std::vec::IntoIter;
+use alloc::collections::BTreeSet;
+use alloc::vec::{IntoIter, Vec};
+use core::fmt;
+use core::ops::{Deref, DerefMut};
+use core::slice::Iter;
 
 macro_rules! lists {
     ($($(#[$doc:meta])* $name:ident;)*) => {$(
@@ -142,15 +142,15 @@ lists! {
     /// none, which stands for the [built-in](Points::built_in) ones. Every call of a chain is lent the same.
     ///
     /// ```
-    /// use lomvuze::{encode, Points, Refusal, Witness, P};
+    /// use lomvuze::{encode, Points, Refusal, Sizes, Witness, P};
     ///
     /// fn main() -> Result<(), Refusal> {
-    ///     let witness = Witness::from([2, 3]);
+    ///     let (sizes, witness) = (Sizes { m: 0, n: 2, k: 2 }, Witness::from([2, 3]));
     ///     let points = Points::from([0, 1, 2, 3, 4, 5, 6, P - 1]);
-    ///     assert_eq!(encode(2, &points, &witness)?.code, [2, 5, 8, 11, 14, 17, 20, P - 1]);
+    ///     assert_eq!(encode(sizes, &points, &witness)?.code, [2, 5, 8, 11, 14, 17, 20, P - 1]);
     ///
     ///     let repeated = Points::from([0, 1, 2, 3, 4, 5, 6, 0]);
-    ///     assert_eq!(encode(2, &repeated, &witness), Err(Refusal::Points));
+    ///     assert_eq!(encode(sizes, &repeated, &witness), Err(Refusal::Points));
     ///     Ok(())
     /// }
     /// ```

@@ -1,17 +1,17 @@
 //! The checks, as errors.
 
-use std::error::Error;
-use std::fmt;
+use core::error::Error;
+use core::fmt;
 
 /// The first check of a call that fails. Later versions may have more checks; the numbers of these stay.
 ///
 /// ```
-/// use lomvuze::{encode, Points, Refusal, Witness, P};
+/// use lomvuze::{encode, Points, Refusal, Sizes, Witness, P};
 ///
-/// let points = Points::built_in();
-/// assert!(encode(2, &points, &Witness::from([2, P - 1])).is_ok());
+/// let (sizes, points) = (Sizes { m: 0, n: 2, k: 2 }, Points::built_in());
+/// assert!(encode(sizes, &points, &Witness::from([2, P - 1])).is_ok());
 ///
-/// let refusal = encode(2, &points, &Witness::from([2, P])).unwrap_err();
+/// let refusal = encode(sizes, &points, &Witness::from([2, P])).unwrap_err();
 /// assert_eq!(refusal, Refusal::Element);
 /// assert_eq!(refusal.number(), 3);
 /// assert_eq!(refusal.to_string(), "an element is p or more");

@@ -1,5 +1,7 @@
 //! Sizes, their limits, and the lengths that they give.
 
+use lomvuze_calls::layout::{ItemLayout, OpeningLayout, NUMBER_BYTES};
+
 /// The count of elements: an element is a number below p.
 pub const P: u32 = 2013265921;
 /// The greatest m.
@@ -17,18 +19,18 @@ pub const MAX_PAIRS: usize = 64;
 /// The greatest length of a sheet, in bytes. To have a longer one refused, one byte more is enough.
 pub const MAX_SHEET: usize = 60_000;
 
-/// The length of an entry.
-pub(crate) const ENTRY_BYTES: usize = 12;
+/// The length of an entry: row, column and value.
+pub(crate) const ENTRY_BYTES: usize = 3 * NUMBER_BYTES;
 
 /// The most numbers that a list of numbers may have: points or positions, for the greatest k.
 pub(crate) const MOST_NUMBERS: usize = 4 * MAX_K as usize;
 
-/// The sizes of a circuit and its claims. The methods give the lengths in bytes of what
-/// [`Item::to_bytes`](crate::Item::to_bytes) and its like write, and what verifying hashes; the calls need none of them
-/// from their caller.
+/// The sizes of a circuit and its claims: every call but [`read_sheet`](crate::read_sheet), which gives them, takes them
+/// first. A call looks at those alone that it has a use for: its page says which, where these are not all.
 ///
-/// Which sizes are permitted is for the calls to say. For others the lengths follow the same rules, up to
-/// [`usize::MAX`].
+/// The methods give the lengths in bytes of what [`Item::to_bytes`](crate::Item::to_bytes) and its like write, what
+/// verifying hashes, and the bound on the challenges of a false list; the calls need none of them from their caller.
+/// Which sizes are permitted is for the calls to say. For others the lengths follow the same rules, up to [`usize::MAX`].
 ///
 /// ```
 /// use lomvuze::Sizes;
@@ -51,24 +53,29 @@ impl Sizes {
     /// The greatest that are permitted.
     pub(crate) const GREATEST: Sizes = Sizes { m: MAX_M, n: MAX_N, k: MAX_K };
 
-    /// Whether no size is above its greatest.
-    pub(crate) fn are_within_limits(self) -> bool {
-        self.m <= MAX_M && self.n <= MAX_N && self.k <= MAX_K
+    /// Where the parts of an item lie.
+    pub(crate) fn item_layout(self) -> ItemLayout {
+        ItemLayout { m: self.m, n: self.n }
+    }
+
+    /// Where the parts of an opening lie.
+    pub(crate) fn opening_layout(self) -> OpeningLayout {
+        OpeningLayout { k: self.k }
     }
 
     /// The levels of the tree over a codeword, log2(4k): the digests of an opening's path.
     pub fn depth(self) -> usize {
-        self.k.checked_ilog2().map_or(0, |log| log as usize + 2)
+        self.opening_layout().depth()
     }
 
     /// Points that are lent.
     pub fn points_bytes(self) -> usize {
-        16 * self.k as usize
+        self.codeword_bytes()
     }
 
     /// A witness.
     pub fn witness_bytes(self) -> usize {
-        4 * self.k as usize
+        NUMBER_BYTES * self.k as usize
     }
 
     /// l witnesses.
@@ -78,12 +85,12 @@ impl Sizes {
 
     /// A codeword.
     pub fn codeword_bytes(self) -> usize {
-        16 * self.k as usize
+        4 * self.witness_bytes()
     }
 
     /// An item.
     pub fn item_bytes(self) -> usize {
-        4 + 4 * self.m as usize + 4 * self.n as usize + 32
+        self.item_layout().bytes()
     }
 
     /// l items.
@@ -93,12 +100,12 @@ impl Sizes {
 
     /// The quotient of l items.
     pub fn quotient_bytes(self, l: usize) -> usize {
-        l.saturating_sub(1).saturating_mul(4 * (self.m as usize + 1))
+        l.saturating_sub(1).saturating_mul(NUMBER_BYTES * (self.m as usize + 1))
     }
 
     /// An opening.
     pub fn opening_bytes(self) -> usize {
-        4 + 32 * self.depth()
+        self.opening_layout().bytes()
     }
 
     /// The openings of one witness at t positions.
@@ -128,5 +135,20 @@ impl Sizes {
             return 0;
         }
         (t * (l + 1) * (1 + 2 * self.depth())) as u64
+    }
+
+    /// (l − 1) × (m + 2): the most challenges, of the p − l that are permitted for l items, at which a list with a false item
+    /// can pass [`verify`](crate::verify) and [`decide`](crate::decide), for one quotient and one set of k different positions,
+    /// but for a SHA-256 collision (`docs/OBLIGATIONS.md` of the repository, "What an accepted fold establishes", has all
+    /// conditions). So one accepted fold of two items or more does not say that they hold. 0 for l = 0.
+    ///
+    /// ```
+    /// use lomvuze::Sizes;
+    ///
+    /// assert_eq!(Sizes { m: 6, n: 64, k: 64 }.challenge_bound(8), 56);
+    /// assert_eq!(Sizes { m: 0, n: 2, k: 2 }.challenge_bound(1), 0);
+    /// ```
+    pub fn challenge_bound(self, l: usize) -> u64 {
+        (l.saturating_sub(1) as u64).saturating_mul(u64::from(self.m) + 2)
     }
 }

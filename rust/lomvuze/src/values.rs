@@ -2,9 +2,11 @@
 
 use crate::refusal::accepted;
 use crate::{PublicInputs, Quotient, Refusal, Sizes, Witness, R};
+use alloc::vec::Vec;
+use lomvuze_calls::layout::DIGEST_BYTES;
 
 /// A SHA-256 digest.
-pub type Digest = [u8; 32];
+pub type Digest = [u8; DIGEST_BYTES];
 
 /// A value at a place of one of a circuit's lists. Entries are ordered as a list has them.
 #[derive(Clone, Copy, PartialEq, Eq, PartialOrd, Ord, Hash, Debug)]
@@ -99,7 +101,7 @@ impl Item {
     ///     let sizes = Sizes { m: 0, n: 2, k: 2 };
     ///     let circuit = Circuit::new([(0, 2, 1)], [(0, 3, 1)], [(0, 1, 1)]);
     ///     let (points, witness) = (Points::built_in(), Witness::from([4, 5]));
-    ///     let root = encode(2, &points, &witness)?.root;
+    ///     let root = encode(sizes, &points, &witness)?.root;
     ///     let mut item = Item::new(R::default(), PublicInputs::from([1, 21]), root);
     ///     item.e = P - 1;
     ///     decide(sizes, &points, &circuit, &item, &witness)?;

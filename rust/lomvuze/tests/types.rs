@@ -90,7 +90,7 @@ fn seeds() {
 #[test]
 fn conversions() {
     let opening = Opening { value: 5, path: vec![[7; 32]; 3] };
-    assert_eq!(Opening::try_from(&opening.to_bytes()[..]), Ok(opening));
+    assert_eq!(Opening::from_bytes(Sizes { m: 0, n: 1, k: 2 }, &opening.to_bytes()), Ok(opening));
     let entry = Entry::from((1, 2, 3));
     assert_eq!(Entry::try_from(&entry.to_bytes()[..]), Ok(entry));
     assert!(Entry::from((0, 9, 9)) < entry && Entry::from((1, 1, 9)) < entry);

@@ -4,7 +4,7 @@ use lomvuze_proved as proved;
 use lomvuze_reference::code;
 use lomvuze_reference::field::{Element, P};
 use lomvuze_reference::polynomial::Polynomial;
-use lomvuze_samples::Random;
+use lomvuze_trials::Random;
 
 const COUNTS: [usize; 6] = [2, 4, 8, 16, 32, 64];
 

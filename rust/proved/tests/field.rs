@@ -2,7 +2,7 @@
 
 use lomvuze_proved as proved;
 use lomvuze_reference::field::{Element, P};
-use lomvuze_samples::Random;
+use lomvuze_trials::Random;
 
 /// The element that a number stands for.
 fn element(number: u32) -> Element {

@@ -2,7 +2,7 @@
 
 use lomvuze_proved::side_by_side;
 use lomvuze_reference::sha256::hash;
-use lomvuze_samples::Random;
+use lomvuze_trials::Random;
 
 /// A message of at most 119 bytes, padded as FIPS 180-4, section 5.1.1, has it, before bytes that belong to no block.
 fn padded(message: &[u8], behind: u8) -> [u8; 128] {

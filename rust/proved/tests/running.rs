@@ -3,7 +3,7 @@
 use lomvuze_proved as proved;
 use lomvuze_reference::sha256::{hash, Digest};
 use lomvuze_reference::tree;
-use lomvuze_samples::Random;
+use lomvuze_trials::Random;
 
 const MARK: Digest = [0xAA; 32];
 

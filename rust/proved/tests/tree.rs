@@ -3,7 +3,8 @@
 use lomvuze_proved as proved;
 use lomvuze_reference::sha256::Digest;
 use lomvuze_reference::tree;
-use lomvuze_samples::Random;
+use lomvuze_trials::layout::{DIGEST_BYTES, NUMBER_BYTES};
+use lomvuze_trials::Random;
 
 const MARK: Digest = [0xAA; 32];
 
@@ -22,11 +23,12 @@ fn values(random: &mut Random, depth: usize) -> Vec<u32> {
 
 /// An opening's value and path.
 fn parts(opening: &[u8]) -> (&[u8], Vec<Digest>) {
-    (&opening[..4], opening[4..].chunks(32).map(|digest| digest.try_into().unwrap()).collect())
+    let (value, siblings) = opening.split_at(NUMBER_BYTES);
+    (value, siblings.chunks(DIGEST_BYTES).map(|digest| digest.try_into().unwrap()).collect())
 }
 
 fn proved_opening(values: &[u32], depth: usize, position: usize) -> Vec<u8> {
-    let mut opening = vec![0xAA; 4 + 32 * depth];
+    let mut opening = vec![0xAA; NUMBER_BYTES + DIGEST_BYTES * depth];
     assert_eq!(proved::opening(values, depth, position, &mut opening), 0);
     opening
 }
@@ -42,7 +44,8 @@ fn random_opening(random: &mut Random) -> (Vec<u32>, usize, Vec<u8>) {
 
 fn proved_leads_to(opening: &[u8], position: usize) -> Digest {
     let mut out = MARK;
-    assert_eq!(proved::leads_to(opening, (opening.len() - 4) / 32, position, &mut out), 0);
+    let depth = (opening.len() - NUMBER_BYTES) / DIGEST_BYTES;
+    assert_eq!(proved::leads_to(opening, depth, position, &mut out), 0);
     out
 }
 
@@ -139,7 +142,9 @@ fn refusals_write_nothing() {
     for (count, depth) in [(0, 0), (7, 3), (9, 3), (512, 9), (1024, 10), (1, usize::MAX), (8, 64)] {
         assert_eq!(proved::root(&values[..count], depth, &mut out), 1);
     }
-    for (size, depth) in [(0, 0), (3, 0), (99, 3), (101, 3), (4 + 32 * 9, 9), (4, usize::MAX)] {
+    for (size, depth) in
+        [(0, 0), (3, 0), (99, 3), (101, 3), (NUMBER_BYTES + DIGEST_BYTES * 9, 9), (4, usize::MAX)]
+    {
         assert_eq!(proved::leads_to(&vec![0; size], depth, 0, &mut out), 1);
     }
     assert_eq!(out, MARK);

@@ -1,5 +1,5 @@
-//! The eleven public calls: the scope paper's section "Checking order", putting openings in the verifier's order, and
-//! drawing by hash.
+//! The public calls: the scope paper's section "Checking order", putting openings in the verifier's order, drawing by hash,
+//! and the reader of sheets.
 //!
 //! A call's verdict is 0 or the number of the first check that fails, and a refusal writes nothing. Each check
 //! runs over all of a call's input before the next. Check 12 stands directly after 3, and 13 directly after 4 (in
@@ -13,7 +13,8 @@ mod folds;
 mod items;
 mod witnesses;
 
-pub use draws::{draw_challenge, draw_positions, draw_r};
-pub use folds::{fold, quotient, verify};
-pub use items::{cast, decide};
-pub use witnesses::{encode, interleave, open};
+pub use crate::sheet::read_sheet;
+pub use draws::*;
+pub use folds::*;
+pub use items::*;
+pub use witnesses::*;

@@ -1,13 +1,14 @@
 //! What the calls share: the checks by their numbers, and what stands in a buffer.
 //!
-//! In a buffer a number takes four bytes, lowest first; a circuit's entry is row, column and value; an item is e, r,
-//! x and root; an opening is its value and its sibling digests.
+//! In a buffer a number takes four bytes, lowest first; a circuit's entry is row, column and value. Where the parts of an
+//! item and of an opening lie is `lomvuze_calls::layout`'s.
 
 use crate::claims::{self, Circuit, Entry, Item};
 use crate::code;
 use crate::field::{Element, ONE, P};
 use crate::sha256::Digest;
 use crate::tree;
+use lomvuze_calls::layout::{ItemLayout, OpeningLayout, DIGEST_BYTES};
 use std::ops::RangeInclusive;
 
 /// The number of the check that fails.
@@ -72,16 +73,15 @@ pub(crate) fn size_t(t: u32, k: usize) -> Result<usize, Refusal> {
 }
 
 pub(crate) const fn item_length(m: usize, n: usize) -> usize {
-    4 + 4 * m + 4 * n + 32
+    ItemLayout { m: m as u32, n: n as u32 }.bytes()
 }
 
 pub(crate) fn quotient_length(m: usize, l: usize) -> usize {
     4 * claims::quotient_count(m, l)
 }
 
-/// A value and log2(4k) digests.
 pub(crate) fn opening_length(k: usize) -> usize {
-    4 + 32 * (4 * k).ilog2() as usize
+    OpeningLayout { k: k as u32 }.bytes()
 }
 
 /// No points, or 4k numbers.
@@ -132,19 +132,18 @@ pub(crate) fn circuit(a: &[u8], b: &[u8], c: &[u8]) -> Result<Circuit, Refusal> 
     Ok(Circuit { a: entries(a)?, b: entries(b)?, c: entries(c)? })
 }
 
-pub(crate) fn item(bytes: &[u8], m: usize) -> Result<Item, Refusal> {
-    let (e_r_x, root) = bytes.split_at(bytes.len() - 32);
-    let e_r_x = elements(e_r_x)?;
+pub(crate) fn item(bytes: &[u8], m: usize, n: usize) -> Result<Item, Refusal> {
+    let layout = ItemLayout { m: m as u32, n: n as u32 };
     Ok(Item {
-        e: e_r_x[0],
-        r: e_r_x[1..1 + m].to_vec(),
-        x: e_r_x[1 + m..].to_vec(),
-        root: root.try_into().expect("32 bytes"),
+        e: element(number(&bytes[layout.e()]))?,
+        r: elements(&bytes[layout.r()])?,
+        x: elements(&bytes[layout.x()])?,
+        root: bytes[layout.root()].try_into().expect("a digest"),
     })
 }
 
 pub(crate) fn items(bytes: &[u8], m: usize, n: usize) -> Result<Vec<Item>, Refusal> {
-    bytes.chunks(item_length(m, n)).map(|bytes| item(bytes, m)).collect()
+    bytes.chunks(item_length(m, n)).map(|bytes| item(bytes, m, n)).collect()
 }
 
 pub(crate) fn witnesses(bytes: &[u8], k: usize) -> Result<Vec<Vec<Element>>, Refusal> {
@@ -156,16 +155,17 @@ pub(crate) struct Opening {
     pub path: Vec<Digest>,
 }
 
-fn opening(bytes: &[u8]) -> Result<Opening, Refusal> {
-    let (value, path) = bytes.split_at(4);
+fn opening(bytes: &[u8], layout: OpeningLayout) -> Result<Opening, Refusal> {
+    let siblings = bytes[layout.siblings()].chunks(DIGEST_BYTES);
     Ok(Opening {
-        value: element(number(value))?,
-        path: path.chunks(32).map(|digest| digest.try_into().expect("32 bytes")).collect(),
+        value: element(number(&bytes[layout.value()]))?,
+        path: siblings.map(|digest| digest.try_into().expect("a digest")).collect(),
     })
 }
 
 pub(crate) fn openings(bytes: &[u8], k: usize) -> Result<Vec<Opening>, Refusal> {
-    bytes.chunks(opening_length(k)).map(opening).collect()
+    let layout = OpeningLayout { k: k as u32 };
+    bytes.chunks(layout.bytes()).map(|bytes| opening(bytes, layout)).collect()
 }
 
 // ---- Check 12: points.
@@ -218,15 +218,24 @@ pub(crate) fn check_positions(positions: &[u8], k: usize) -> Result<Vec<usize>, 
 
 // ---- Writing.
 
-pub(crate) fn element_bytes(elements: &[Element]) -> Vec<u8> {
+pub fn element_bytes(elements: &[Element]) -> Vec<u8> {
     elements.iter().flat_map(|element| element.number().to_le_bytes()).collect()
 }
 
-pub(crate) fn item_bytes(item: &Item) -> Vec<u8> {
-    [element_bytes(&[item.e]), element_bytes(&item.r), element_bytes(&item.x), item.root.to_vec()].concat()
+pub fn item_bytes(item: &Item) -> Vec<u8> {
+    let layout = ItemLayout { m: item.r.len() as u32, n: item.x.len() as u32 };
+    let mut bytes = vec![0; layout.bytes()];
+    bytes[layout.e()].copy_from_slice(&element_bytes(&[item.e]));
+    bytes[layout.r()].copy_from_slice(&element_bytes(&item.r));
+    bytes[layout.x()].copy_from_slice(&element_bytes(&item.x));
+    bytes[layout.root()].copy_from_slice(&item.root);
+    bytes
 }
 
 pub(crate) fn opening_bytes(codeword: &[Element], position: usize) -> Vec<u8> {
-    let path = tree::path(position, &code::entries(codeword));
-    [element_bytes(&[codeword[position]]), path.concat()].concat()
+    let layout = OpeningLayout { k: codeword.len() as u32 / 4 };
+    let mut bytes = vec![0; layout.bytes()];
+    bytes[layout.value()].copy_from_slice(&element_bytes(&[codeword[position]]));
+    bytes[layout.siblings()].copy_from_slice(&tree::path(position, &code::entries(codeword)).concat());
+    bytes
 }

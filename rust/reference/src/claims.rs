@@ -122,14 +122,19 @@ fn combine_lists(lists: &[&[Element]]) -> Vec<Polynomial> {
         .collect()
 }
 
-/// The sum of L_i(a) × (number i).
-pub fn combine_at(numbers: &[Element], a: Element) -> Element {
-    combine(numbers).at(a)
+/// L_0(a) to L_(l-1)(a).
+pub fn lagrange_at(l: usize, a: Element) -> Vec<Element> {
+    (0..l).map(|i| lagrange(l, i).at(a)).collect()
+}
+
+/// The sum of L_i(a) × (number i), with the L_i(a) given.
+pub fn combine_at(lagrange_at: &[Element], numbers: impl Iterator<Item = Element>) -> Element {
+    lagrange_at.iter().zip(numbers).map(|(weight, number)| *weight * number).sum()
 }
 
 /// The sums of L_i(a) × (list i), place by place.
-fn combine_lists_at(lists: &[&[Element]], a: Element) -> Vec<Element> {
-    combine_lists(lists).iter().map(|sum| sum.at(a)).collect()
+fn combine_lists_at(lagrange_at: &[Element], lists: &[&[Element]]) -> Vec<Element> {
+    (0..lists[0].len()).map(|place| combine_at(lagrange_at, lists.iter().map(|list| list[place]))).collect()
 }
 
 /// How many coefficients the quotient of l items has.
@@ -155,14 +160,16 @@ pub fn quotient(circuit: &Circuit, items: &[Item], witnesses: &[Vec<Element>]) -
 
 /// The r, x and e of the new item for challenge a.
 pub fn fold_claim(items: &[Item], quotient: &[Element], a: Element) -> (Vec<Element>, Vec<Element>, Element) {
-    let r = combine_lists_at(&items.iter().map(|item| &item.r[..]).collect::<Vec<_>>(), a);
-    let x = combine_lists_at(&items.iter().map(|item| &item.x[..]).collect::<Vec<_>>(), a);
-    let e = combine_at(&items.iter().map(|item| item.e).collect::<Vec<_>>(), a)
+    let at = lagrange_at(items.len(), a);
+    let r = combine_lists_at(&at, &items.iter().map(|item| &item.r[..]).collect::<Vec<_>>());
+    let x = combine_lists_at(&at, &items.iter().map(|item| &item.x[..]).collect::<Vec<_>>());
+    let e = combine_at(&at, items.iter().map(|item| item.e))
         + vanishing(items.len()).at(a) * Polynomial(quotient.to_vec()).at(a);
     (r, x, e)
 }
 
 /// The new witness for challenge a.
 pub fn fold_witness(witnesses: &[Vec<Element>], a: Element) -> Vec<Element> {
-    combine_lists_at(&witnesses.iter().map(|w| &w[..]).collect::<Vec<_>>(), a)
+    let at = lagrange_at(witnesses.len(), a);
+    combine_lists_at(&at, &witnesses.iter().map(|w| &w[..]).collect::<Vec<_>>())
 }

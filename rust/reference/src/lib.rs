@@ -9,7 +9,7 @@
 //! - [`polynomial`] — polynomials over the field
 //! - [`claims`] — circuits, items, their value, the quotient and the fold
 //! - [`draws`] — seed, challenge, positions and r, drawn by hash
-//! - [`calls`] — the eleven public calls over byte buffers, with their checks in order
+//! - [`calls`] — the public calls over byte buffers, with their checks in order
 //! - [`sheet`] — the reader of sheets and the listing of their claims
 
 pub mod calls;
@@ -22,3 +22,5 @@ pub mod polynomial;
 pub mod sha256;
 pub mod sheet;
 pub mod tree;
+
+pub use checks::{element_bytes, item_bytes};

@@ -1,5 +1,7 @@
 //! SHA-256, section by section from FIPS 180-4. A message is a string of bytes.
 
+use std::sync::LazyLock;
+
 pub type Digest = [u8; 32];
 
 // 4.1.2: the six functions. ROTR and SHR are those of sections 2.2.2 and 3.2.
@@ -67,22 +69,22 @@ pub fn initial_value() -> [u32; 8] {
     std::array::from_fn(|i| root_fraction(primes[i], 2))
 }
 
-/// 5.1.1: the message, the bit 1, the fewest bits 0 that fill up a block, and the message's length in bits.
-fn pad(message: &[u8]) -> Vec<u8> {
-    let mut padded = message.to_vec();
-    padded.push(0x80);
-    while padded.len() % 64 != 56 {
-        padded.push(0);
-    }
-    padded.extend((8 * message.len() as u64).to_be_bytes());
-    padded
+/// 5.1.1: the padded message behind the message's whole blocks, in the first bytes of an array, and how many they are: the
+/// rest of the message, the bit 1, the fewest bits 0 that fill up a block, and the message's length in bits.
+pub fn pad(rest: &[u8], length: usize) -> ([u8; 128], usize) {
+    let mut padded = [0; 128];
+    padded[..rest.len()].copy_from_slice(rest);
+    padded[rest.len()] = 0x80;
+    let end = if rest.len() < 56 { 64 } else { 128 };
+    padded[end - 8..end].copy_from_slice(&(8 * length as u64).to_be_bytes());
+    (padded, end)
 }
 
 /// 6.2.2, step 1: the message schedule of a block of 64 bytes.
 fn schedule(block: &[u8]) -> [u32; 64] {
     let mut w = [0; 64];
-    for t in 0..16 {
-        w[t] = u32::from_be_bytes([block[4 * t], block[4 * t + 1], block[4 * t + 2], block[4 * t + 3]]);
+    for (word, bytes) in w.iter_mut().zip(block.chunks_exact(4)) {
+        *word = u32::from_be_bytes(bytes.try_into().expect("four bytes"));
     }
     for t in 16..64 {
         w[t] = small_sigma_1(w[t - 2])
@@ -93,9 +95,15 @@ fn schedule(block: &[u8]) -> [u32; 64] {
     w
 }
 
+/// The round constants, worked out once.
+static CONSTANTS: LazyLock<[u32; 64]> = LazyLock::new(round_constants);
+
+/// The initial hash value, worked out once.
+pub static INITIAL: LazyLock<[u32; 8]> = LazyLock::new(initial_value);
+
 /// 6.2.2, steps 2 to 4: the hash value after one more block.
-fn compress(hash: [u32; 8], block: &[u8], constants: &[u32; 64]) -> [u32; 8] {
-    let w = schedule(block);
+pub fn compress(hash: [u32; 8], block: &[u8]) -> [u32; 8] {
+    let (w, constants) = (schedule(block), &*CONSTANTS);
     let [mut a, mut b, mut c, mut d, mut e, mut f, mut g, mut h] = hash;
     for t in 0..64 {
         let t1 = h
@@ -124,20 +132,25 @@ pub struct Hashed {
     pub blocks: u64,
 }
 
-/// 6.2: processes the blocks of the padded message, one after the other, and counts them.
-pub fn hash(message: &[u8]) -> Hashed {
-    static CONSTANTS: std::sync::OnceLock<([u32; 64], [u32; 8])> = std::sync::OnceLock::new();
-    let (constants, initial) = CONSTANTS.get_or_init(|| (round_constants(), initial_value()));
-    let (mut hash, mut blocks) = (*initial, 0);
-    for block in pad(message).chunks(64) {
-        hash = compress(hash, block, constants);
-        blocks += 1;
-    }
+/// 6.2.2, at the end: the digest is the last hash value.
+pub fn digest_of(hash: [u32; 8]) -> Digest {
     let mut digest = [0; 32];
     for i in 0..8 {
         digest[4 * i..4 * i + 4].copy_from_slice(&hash[i].to_be_bytes());
     }
-    Hashed { digest, blocks }
+    digest
+}
+
+/// 6.2: processes the blocks of the padded message, one after the other, and counts them.
+pub fn hash(message: &[u8]) -> Hashed {
+    let (mut hash, mut blocks) = (*INITIAL, 0);
+    let whole = message.chunks_exact(64);
+    let (padded, end) = pad(whole.remainder(), message.len());
+    for block in whole.chain(padded[..end].chunks_exact(64)) {
+        hash = compress(hash, block);
+        blocks += 1;
+    }
+    Hashed { digest: digest_of(hash), blocks }
 }
 
 /// The digest alone.
@@ -149,14 +162,17 @@ pub fn digest(message: &[u8]) -> Digest {
 mod tests {
     use super::*;
 
-    /// The padded message ends with the length and has whole blocks, and each is counted.
+    /// The padded message goes on with the bit 1 and bits 0, ends with the length and has whole blocks, and each is counted.
     #[test]
     fn blocks_of_every_length() {
         for length in 0..=300 {
             let message = vec![0x5a; length];
-            let padded = pad(&message);
-            assert_eq!((padded.len() % 64, &padded[..length]), (0, &message[..]), "{length} bytes");
-            assert_eq!(padded[padded.len() - 8..], (8 * length as u64).to_be_bytes(), "{length} bytes");
+            let rest = &message[length - length % 64..];
+            let (padded, end) = pad(rest, length);
+            assert_eq!((end % 64, &padded[..rest.len()]), (0, rest), "{length} bytes");
+            assert_eq!(padded[rest.len()], 0x80, "{length} bytes");
+            assert!(padded[rest.len() + 1..end - 8].iter().all(|byte| *byte == 0), "{length} bytes");
+            assert_eq!(padded[end - 8..end], (8 * length as u64).to_be_bytes(), "{length} bytes");
             // One block more than are full before the bit 1 and the eight bytes of the length.
             assert_eq!(hash(&message).blocks, (length as u64 + 8) / 64 + 1, "{length} bytes");
         }

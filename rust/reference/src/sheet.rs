@@ -3,13 +3,19 @@
 //! A sheet is split into lines and the lines into fields, and what they say is collected, before any size is
 //! looked at.
 
+mod listing;
+mod writing;
+
 use crate::checks::{
     check, check_circuit, check_first_inputs, element, element_bytes, item_bytes, item_length, size_k,
     size_m, size_n, Refusal, MOST_ENTRIES,
 };
-use crate::claims::{self, Circuit, Entry, Item};
+use crate::claims::{Circuit, Entry, Item};
 use crate::field::Element;
 use crate::sha256::Digest;
+
+pub use listing::listing;
+pub use writing::write;
 
 pub const MOST_BYTES: usize = 60_000;
 const MOST_PAIRS: usize = 64;
@@ -62,7 +68,8 @@ pub struct Reading {
 
 type Line<'a> = Vec<&'a [u8]>;
 
-fn collect(sheet: &[u8]) -> Result<Sheet, Refusal> {
+/// What a sheet says, where it keeps the line rules.
+pub fn collect(sheet: &[u8]) -> Result<Sheet, Refusal> {
     check(1, sheet.len() <= MOST_BYTES)?;
     let lines: Vec<Line> = sheet
         .strip_suffix(b"\n")
@@ -178,7 +185,24 @@ fn item(pair: &Pair, m: usize) -> Result<Item, Refusal> {
     Ok(Item { e: numbers[0], r: r.to_vec(), x: x.to_vec(), root: pair.root })
 }
 
-// ---- The reader and the listing.
+// ---- The reader.
+
+/// The public call: as [`read`], with sizes and counts in an array. A refusal leaves that as it was too.
+pub fn read_sheet(
+    sheet: &[u8],
+    a_out: &mut [u8],
+    b_out: &mut [u8],
+    c_out: &mut [u8],
+    items_out: &mut [u8],
+    wits_out: &mut [u8],
+    sizes_out: &mut [u32; 7],
+) -> u32 {
+    let Reading { answer, m, n, k, a, b, c, pairs } = read(sheet, a_out, b_out, c_out, items_out, wits_out);
+    if answer == 0 {
+        *sizes_out = [m, n, k, a, b, c, pairs];
+    }
+    answer
+}
 
 /// Reads a sheet into buffers of the greatest lengths, from the front and without gaps; what lies beyond
 /// stays as it was. Checks 1 to 4 and 13; a refusal writes nothing.
@@ -215,44 +239,4 @@ fn entry_bytes(entry: &Entry) -> Vec<u8> {
 fn fill(buffer: &mut [u8], parts: impl Iterator<Item = Vec<u8>>) {
     let bytes: Vec<u8> = parts.flatten().collect();
     buffer[..bytes.len()].copy_from_slice(&bytes);
-}
-
-/// What the program `claims` prints for a sheet.
-pub fn listing(sheet: &[u8]) -> Vec<u8> {
-    let text = match accept(sheet, true) {
-        Err(answer) => format!("refused\t{answer}\n"),
-        Ok(Claims { circuit, items, witnesses, .. }) => {
-            let mut text = format!("claims\t{}\n", items.len());
-            for (index, (Item { e, r, x, .. }, w)) in items.iter().zip(&witnesses).enumerate() {
-                let value = claims::value(&circuit, r, x, w);
-                let verdict = if value == *e { "holds" } else { "differs" };
-                text += &format!("{index}\t{}\t{}\t{verdict}\n", value.number(), e.number());
-            }
-            text
-        }
-    };
-    text.into_bytes()
-}
-
-// ---- Writing sheets.
-
-/// The text of a sheet, with byte 10 behind every line.
-pub fn write(sheet: &Sheet) -> Vec<u8> {
-    let mut text = line("size", &sheet.size, None);
-    for (keyword, list) in [("a", &sheet.a), ("b", &sheet.b), ("c", &sheet.c)] {
-        text.extend(list.iter().map(|entry| line(keyword, entry, None)));
-    }
-    for pair in &sheet.pairs {
-        text += &line("item", &pair.numbers, Some(&pair.root));
-        text += &line("wit", &pair.witness, None);
-    }
-    text += &line("end", &[sheet.end], None);
-    text.into_bytes()
-}
-
-fn line(keyword: &str, numbers: &[u32], root: Option<&Digest>) -> String {
-    let numbers = numbers.iter().map(|number| number.to_string());
-    let root = root.map(|root| root.iter().map(|byte| format!("{byte:02x}")).collect());
-    let fields: Vec<String> = [keyword.to_string()].into_iter().chain(numbers).chain(root).collect();
-    fields.join("\t") + "\n"
 }

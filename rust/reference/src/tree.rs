@@ -9,8 +9,11 @@ fn leaf_message(entry: &[u8]) -> Vec<u8> {
 }
 
 /// What is hashed for an inner node: the byte 0x01 and the two child digests.
-fn node_message(left: &Digest, right: &Digest) -> Vec<u8> {
-    [&[0x01], &left[..], &right[..]].concat()
+pub fn node_message(left: &Digest, right: &Digest) -> [u8; 65] {
+    let mut message = [0x01; 65];
+    message[1..33].copy_from_slice(left);
+    message[33..].copy_from_slice(right);
+    message
 }
 
 /// The hash of a leaf.

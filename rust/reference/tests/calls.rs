@@ -1,8 +1,8 @@
 //! Random calls: honest ones are accepted, damaged ones answer with checks of their own, and refusals write
 //! nothing. Verifying counts as many blocks as its verdict permits.
 
-use lomvuze_samples::answer::verdict;
-use lomvuze_samples::{Call, Random, NAMES, REFERENCE};
+use lomvuze_trials::answer::verdict;
+use lomvuze_trials::{Call, Random, NAMES, REFERENCE};
 use std::collections::BTreeSet;
 
 #[test]

@@ -2,8 +2,8 @@
 
 use lomvuze_reference::calls;
 use lomvuze_reference::field::P;
-use lomvuze_samples::answer::{after, after_all};
-use lomvuze_samples::{number_at, points, put, Chain, Honest, Random, REFERENCE};
+use lomvuze_trials::answer::{after, after_all};
+use lomvuze_trials::{number_at, points, put, Chain, Honest, Random, REFERENCE};
 
 fn random_chain(random: &mut Random, list: &Honest) -> Chain {
     let challenge = list.l + random.below((P - list.l) as usize) as u32;
@@ -68,6 +68,23 @@ fn bump(buffer: &mut [u8], at: usize) {
     put(buffer, at, (number_at(buffer, at) + 1) % P);
 }
 
+/// The chain with another witness behind the root of the new item: the openings lead to it, and are no combination.
+fn with_another_witness(list: &Honest, chain: &Chain) -> Chain {
+    let mut damaged = chain.clone();
+    let mut w = list.witnesses[..list.witness_length()].to_vec();
+    bump(&mut w, 0);
+    let (mut code, mut root) = (vec![0; 16 * list.k as usize], vec![0; 32]);
+    assert_eq!(calls::encode(list.k, &list.points, &w, &mut code, &mut root), 0);
+    damaged.new_item[list.item_layout().root()].copy_from_slice(&root);
+    let mut openings = vec![0; chain.t as usize * list.opening_length()];
+    assert_eq!(calls::open(list.k, chain.t, &list.points, &w, &chain.positions, &mut openings), 0);
+    for (q, opening) in openings.chunks(list.opening_length()).enumerate() {
+        let at = (q * 4 + 3) * list.opening_length();
+        damaged.openings[at..at + opening.len()].copy_from_slice(opening);
+    }
+    damaged
+}
+
 #[test]
 fn damaged_folds_are_refused() {
     let mut random = Random::new(4);
@@ -89,29 +106,14 @@ fn damaged_folds_are_refused() {
         let mut damaged = chain.clone();
         let j = random.below(4 * chain.t as usize);
         let (opening, refused) = (j * list.opening_length(), after(j + 1, list.k, 8));
-        damaged.openings[opening + 4 + random.below(list.opening_length() - 4)] ^= 1 << random.below(8);
+        let siblings = list.opening_layout().siblings();
+        damaged.openings[opening + siblings.start + random.below(siblings.len())] ^= 1 << random.below(8);
         assert_eq!(damaged.verify(&REFERENCE, &list), refused);
         let mut damaged = chain.clone();
         bump(&mut damaged.openings, opening);
         assert_eq!(damaged.verify(&REFERENCE, &list), refused);
 
-        // A new item with another witness behind its root: the openings lead to it, and are no combination.
-        let mut other = list.clone();
-        for i in 0..list.l as usize {
-            bump(&mut other.witnesses, i * list.witness_length());
-        }
-        let mut damaged = chain.clone();
-        let w: Vec<u8> = other.witnesses[..list.witness_length()].to_vec();
-        let (mut code, mut root) = (vec![0; 16 * list.k as usize], vec![0; 32]);
-        assert_eq!(calls::encode(list.k, &list.points, &w, &mut code, &mut root), 0);
-        let end = damaged.new_item.len();
-        damaged.new_item[end - 32..].copy_from_slice(&root);
-        let mut openings = vec![0; chain.t as usize * list.opening_length()];
-        assert_eq!(calls::open(list.k, chain.t, &list.points, &w, &chain.positions, &mut openings), 0);
-        for (q, opening) in openings.chunks(list.opening_length()).enumerate() {
-            let at = (q * 4 + 3) * list.opening_length();
-            damaged.openings[at..at + opening.len()].copy_from_slice(opening);
-        }
+        let damaged = with_another_witness(&list, &chain);
         assert_eq!(damaged.verify(&REFERENCE, &list), after_all(list.k, list.l, chain.t, 9));
 
         // Deciding: another witness, or another e.
@@ -131,7 +133,7 @@ fn other_first_inputs_are_refused() {
     for _ in 0..20 {
         let list = Honest::of_small_size(&mut random);
         let chain = random_chain(&mut random, &list);
-        let first = 4 + 4 * list.m as usize;
+        let first = list.item_layout().first_input().start;
 
         let mut other = list.clone();
         bump(&mut other.items, random.below(list.l as usize) * list.item_length() + first);

@@ -1,6 +1,5 @@
 //! The edges of the checks, by the reference.
 
-use lomvuze_reference::calls;
+use lomvuze_trials::REFERENCE;
 
-#[path = "../../samples/edges.rs"]
-mod edges;
+lomvuze_trials::edge_tests!(REFERENCE);

@@ -1,6 +1,9 @@
-//! Sheets, by the reference.
+//! The edges of the checks of sheets, by the reference.
 
-use lomvuze_reference::sheet;
+use lomvuze_reference::sheet::listing;
+use lomvuze_trials::sheet::edges::Reader;
+use lomvuze_trials::REFERENCE;
 
-#[path = "../../samples/sheet_edges.rs"]
-mod edges;
+const READER: Reader = Reader { library: REFERENCE, listing };
+
+lomvuze_trials::sheet_edge_tests!(READER);

@@ -1,15 +1,16 @@
 //! The cases of the scope paper that a call can show, with 1 as first input: the circuit w0 × w1 = x1 with m = 0, n = 2,
 //! k = 2.
 
+use lomvuze_calls::layout::{ItemLayout, OpeningLayout};
 use lomvuze_reference::field::P;
-use lomvuze_samples::bytes;
+use lomvuze_trials::bytes;
 use lomvuze_verdicts as calls;
 
 const A: [u32; 3] = [0, 2, 1];
 const B: [u32; 3] = [0, 3, 1];
 const C: [u32; 3] = [0, 1, 1];
-const ITEM: usize = 4 + 8 + 32;
-const OPENING: usize = 4 + 32 * 3;
+const ITEM: ItemLayout = ItemLayout { m: 0, n: 2 };
+const OPENING: usize = OpeningLayout { k: 2 }.bytes();
 
 fn root(w: [u32; 2]) -> Vec<u8> {
     let (mut code, mut root) = (vec![0; 32], vec![0; 32]);
@@ -19,11 +20,15 @@ fn root(w: [u32; 2]) -> Vec<u8> {
 
 /// The item of (1, x; w).
 fn item(e: u32, x: u32, w: [u32; 2]) -> Vec<u8> {
-    [bytes(&[e, 1, x]), root(w)].concat()
+    let mut item = vec![0; ITEM.bytes()];
+    item[ITEM.e()].copy_from_slice(&bytes(&[e]));
+    item[ITEM.x()].copy_from_slice(&bytes(&[1, x]));
+    item[ITEM.root()].copy_from_slice(&root(w));
+    item
 }
 
 fn cast(x: u32, w: [u32; 2]) -> (u32, Vec<u8>) {
-    let mut out = vec![0; ITEM];
+    let mut out = vec![0; ITEM.bytes()];
     let [a, b, c] = [A, B, C].map(|entry| bytes(&entry));
     let answer = calls::cast(0, 2, 2, &[], &a, &b, &c, &[], &bytes(&[1, x]), &bytes(&w), &mut out);
     (answer, out)
@@ -37,7 +42,7 @@ fn decide(e: u32, x: u32, w: [u32; 2]) -> u32 {
 fn fold(challenge: u32, items: &[(u32, [u32; 2])]) -> [Vec<u8>; 3] {
     let wits: Vec<u8> = items.iter().flat_map(|(_, w)| bytes(w)).collect();
     let items: Vec<Vec<u8>> = items.iter().map(|(x, w)| item(0, *x, *w)).collect();
-    let (mut quotient, mut new, mut w) = (vec![0; 4 * (items.len() - 1)], vec![0; ITEM], vec![0; 8]);
+    let (mut quotient, mut new, mut w) = (vec![0; 4 * (items.len() - 1)], vec![0; ITEM.bytes()], vec![0; 8]);
     let answer = calls::fold(
         0,
         2,
@@ -61,7 +66,7 @@ fn fold(challenge: u32, items: &[(u32, [u32; 2])]) -> [Vec<u8>; 3] {
 #[test]
 fn c1_and_c2() {
     assert_eq!(cast(6, [2, 3]), (0, item(0, 6, [2, 3])));
-    assert_eq!(cast(21, [4, 5]), (11, vec![0; ITEM]));
+    assert_eq!(cast(21, [4, 5]), (11, vec![0; ITEM.bytes()]));
     assert_eq!((decide(0, 6, [2, 3]), decide(P - 1, 21, [4, 5])), (0, 0));
 }
 
@@ -119,8 +124,8 @@ fn c9() {
 fn c10() {
     let [quotient, new_item, witness] = fold(1, &[(6, [2, 3])]);
     assert_eq!(quotient, []);
-    assert_eq!(new_item[..12], bytes(&[0, 1, 6]));
-    assert_eq!(new_item[12..], root([2, 3]));
+    assert_eq!((&new_item[ITEM.e()], &new_item[ITEM.x()]), (&bytes(&[0])[..], &bytes(&[1, 6])[..]));
+    assert_eq!(new_item[ITEM.root()], root([2, 3]));
     assert_eq!(new_item, cast(6, [2, 3]).1);
     assert_eq!(witness, bytes(&[2, 3]));
 }
@@ -138,7 +143,7 @@ fn c5_drawn() {
 
     let [_, new_item, w] = fold(282522532, &[(6, [2, 3]), (20, [4, 5])]);
     assert_eq!(w, bytes(&[565045066, 565045067]));
-    let root_of_new = &new_item[ITEM - 32..];
+    let root_of_new = &new_item[ITEM.root()];
     assert_eq!(calls::draw_positions(2, 2, 8, 282522532, &seed, root_of_new, &mut positions), 0);
     assert_eq!(positions, bytes(&[7, 7, 4, 4, 6, 5, 5, 7])[..]);
 

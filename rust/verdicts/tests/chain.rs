@@ -3,7 +3,7 @@
 //! positions are random, or drawn. Of the random lists most are lent points.
 
 use lomvuze_reference::field::P;
-use lomvuze_samples::{bytes, library, points, Chain, Honest, Library, Random, REFERENCE};
+use lomvuze_trials::{bytes, library, points, Chain, Honest, Library, Random, REFERENCE};
 use lomvuze_verdicts as calls;
 
 const PROVED: Library = library!(calls);
@@ -159,14 +159,16 @@ fn cast_with_drawn_r(random: &mut Random, list: &Honest) -> (Vec<u8>, Vec<u8>) {
     let x = bytes(&[1].into_iter().chain(products).collect::<Vec<u32>>());
     let w = bytes(&w.iter().map(|number| number.number()).collect::<Vec<u32>>());
     let (mut code, mut root, mut item) = (vec![0; 64], vec![0; 32], vec![0; list.item_length()]);
-    assert_eq!((PROVED.encode)(*k, points, &w, &mut code, &mut root), 0);
+    assert_eq!(PROVED.encode(*k, points, &w, &mut code, &mut root), 0);
     let [r, by_reference] = [PROVED, REFERENCE].map(|by| {
         let mut r = vec![0; 8];
-        assert_eq!((by.draw_r)(*m, *n, &root, &x, &mut r), 0);
+        assert_eq!(by.draw_r(*m, *n, &root, &x, &mut r), 0);
         r
     });
     assert_eq!(r, by_reference);
-    assert_eq!((PROVED.cast)(*m, *n, *k, points, a, b, c, &r, &x, &w, &mut item), 0);
-    assert_eq!(item, [&[0; 4], &r[..], &x, &root].concat());
+    assert_eq!(PROVED.cast(*m, *n, *k, points, a, b, c, &r, &x, &w, &mut item), 0);
+    let layout = list.item_layout();
+    assert_eq!(item[layout.e()], [0; 4]);
+    assert_eq!((&item[layout.r()], &item[layout.x()], &item[layout.root()]), (&r[..], &x[..], &root[..]));
     (item, w)
 }

@@ -1,7 +1,8 @@
-//! The calls are declared as `include/lomvuze.h` declares them: the same names, with the same type of answer and the same
-//! arguments in the same order.
+//! The calls, of which this crate's declarations are made, are described as `include/lomvuze.h` declares them: the same names,
+//! with the same type of answer and the same arguments in the same order.
 
-use lomvuze_verdicts::DECLARED;
+use lomvuze_calls::description::{Call, Description, Formula, Length};
+use lomvuze_calls::CALLS;
 use std::collections::BTreeMap;
 
 const HEADER: &str = include_str!("../../../include/lomvuze.h");
@@ -31,32 +32,34 @@ fn prototypes(header: &str) -> BTreeMap<String, Prototype> {
     prototypes.collect()
 }
 
-/// The arguments of a call that is declared here, as C writes them.
-fn arguments([numbers, inputs, outputs, arrays]: &[&[&str]; 4]) -> Vec<String> {
-    let buffer = |kind: &str, name: &&str| [format!("{kind} *{name}"), format!("size_t {name}_len")];
-    let mut all: Vec<String> = numbers.iter().map(|name| format!("uint32_t {name}")).collect();
-    all.extend(inputs.iter().flat_map(|name| buffer("const uint8_t", name)));
-    all.extend(outputs.iter().flat_map(|name| buffer("uint8_t", name)));
-    all.extend(arrays.iter().map(|name| format!("uint32_t {name}[7]")));
+/// The arguments of a call, as C writes them.
+fn arguments(calls: &Description, call: &Call) -> Vec<String> {
+    let buffer = |kind: &str, name: &str| vec![format!("{kind} *{name}"), format!("size_t {name}_len")];
+    let mut all: Vec<String> = call.numbers.iter().map(|name| format!("uint32_t {name}")).collect();
+    all.extend(call.inputs.iter().flat_map(|input| buffer("const uint8_t", input.name)));
+    all.extend(call.outputs.iter().flat_map(|output| match &calls.part(output.part).unwrap().length {
+        Length::Numbers(Formula::Constant(count)) => vec![format!("uint32_t {}[{count}]", output.name)],
+        _ => buffer("uint8_t", output.name),
+    }));
     all
 }
 
-/// The calls as they are declared here: u32 is uint32_t in C, and u64 is uint64_t.
-fn declared() -> BTreeMap<String, Prototype> {
-    let prototype =
-        |answer: &str, parts| (format!("uint{}_t", answer.trim_start_matches('u')), arguments(parts));
-    DECLARED.iter().map(|(name, answer, parts)| (name.to_string(), prototype(answer, parts))).collect()
+/// The calls as they are described.
+fn described() -> BTreeMap<String, Prototype> {
+    let calls = Description::read(CALLS).unwrap();
+    let prototype = |call: &Call| (format!("uint{}_t", call.bits), arguments(&calls, call));
+    calls.calls.iter().map(|call| (format!("lomvuze_{}", call.name), prototype(call))).collect()
 }
 
 #[test]
-fn declared_as_in_the_header() {
-    assert_eq!(declared(), prototypes(HEADER));
-    assert_eq!(declared().len(), 12);
-    let (answer, _) = &declared()["lomvuze_verify"];
+fn described_as_in_the_header() {
+    assert_eq!(described(), prototypes(HEADER));
+    assert!(described().len() >= 12);
+    let (answer, _) = &described()["lomvuze_verify"];
     assert_eq!(answer, "uint64_t");
 }
 
-/// A header with another type of one answer, another name or another argument is told from the declarations.
+/// A header with another type of one answer, another name or another argument is told from the description.
 #[test]
 fn changed_headers() {
     let changes = [
@@ -71,6 +74,6 @@ fn changed_headers() {
     for (before, after) in changes {
         let changed = HEADER.replacen(before, after, 1);
         assert!(changed != HEADER, "the header has no {before}");
-        assert!(declared() != prototypes(&changed), "not noticed: {after}");
+        assert!(described() != prototypes(&changed), "not noticed: {after}");
     }
 }

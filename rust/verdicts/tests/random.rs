@@ -4,8 +4,8 @@
 //! `cargo test --release --offline -p lomvuze-verdicts --test random -- --nocapture` prints how many calls had
 //! which verdict.
 
-use lomvuze_samples::answer::{after, verdict};
-use lomvuze_samples::{library, points, Call, Comparison, Honest, Library, Name, Random, NAMES, REFERENCE};
+use lomvuze_trials::answer::{after, verdict};
+use lomvuze_trials::{library, points, Call, Comparison, Honest, Library, Name, Random, NAMES, REFERENCE};
 use lomvuze_verdicts as calls;
 
 const PROVED: Library = library!(calls);
@@ -25,60 +25,7 @@ fn random_calls(name: Name) {
     comparison().random_calls(name, CALLS, EACH_VERDICT);
 }
 
-#[test]
-fn encode() {
-    random_calls(Name::Encode);
-}
-
-#[test]
-fn cast() {
-    random_calls(Name::Cast);
-}
-
-#[test]
-fn quotient() {
-    random_calls(Name::Quotient);
-}
-
-#[test]
-fn fold() {
-    random_calls(Name::Fold);
-}
-
-#[test]
-fn open() {
-    random_calls(Name::Open);
-}
-
-#[test]
-fn interleave() {
-    random_calls(Name::Interleave);
-}
-
-#[test]
-fn verify() {
-    random_calls(Name::Verify);
-}
-
-#[test]
-fn decide() {
-    random_calls(Name::Decide);
-}
-
-#[test]
-fn draw_challenge() {
-    random_calls(Name::DrawChallenge);
-}
-
-#[test]
-fn draw_positions() {
-    random_calls(Name::DrawPositions);
-}
-
-#[test]
-fn draw_r() {
-    random_calls(Name::DrawR);
-}
+lomvuze_trials::test_each_call!(random_calls);
 
 /// The greatest sizes, 1,024 entries in each list, and the greatest count of positions, without points and with lent
 /// ones.
@@ -107,7 +54,7 @@ fn greatest_elements() {
             for i in 0..call.inputs.len() {
                 let first = call.first_inputs_of(i);
                 for at in call.elements_of(i).into_iter().filter(|at| !first.contains(at)) {
-                    lomvuze_samples::put(&mut call.inputs[i], at, 2013265920);
+                    lomvuze_trials::put(&mut call.inputs[i], at, 2013265920);
                 }
             }
             assert!(![3, 13].contains(&verdict(comparison().compare(&call))));
@@ -124,21 +71,20 @@ fn inputs_may_overlap() {
         let list = Honest::of_small_size(&mut random);
         let (m, n, k, a, points) = (list.m, list.n, list.k, &list.a, &list.points);
         let (item, w) = (&list.items[..list.item_length()], &list.witnesses[..list.witness_length()]);
-        let [proved, reference] =
-            [PROVED, REFERENCE].map(|by| (by.decide)(m, n, k, points, a, a, a, item, w));
+        let [proved, reference] = [PROVED, REFERENCE].map(|by| by.decide(m, n, k, points, a, a, a, item, w));
         assert_eq!(proved, reference);
 
-        let position = &lomvuze_samples::bytes(&[random.below(4 * k as usize) as u32]);
+        let position = &lomvuze_trials::bytes(&[random.below(4 * k as usize) as u32]);
         let mut opening = vec![0; list.opening_length()];
-        assert_eq!((PROVED.open)(k, 1, points, w, position, &mut opening), 0);
-        let answer = (PROVED.verify)(m, n, k, 1, 1, 1, item, position, &[], item, &opening.repeat(2));
+        assert_eq!(PROVED.open(k, 1, points, w, position, &mut opening), 0);
+        let answer = PROVED.verify(m, n, k, 1, 1, 1, item, position, &[], item, &opening.repeat(2));
         assert_eq!(answer, after(2, k, 0));
 
         let points = points::built_in(k);
         let [proved, reference] = [PROVED, REFERENCE].map(|by| {
             let (mut code, mut root) = (vec![0; 16 * k as usize], [0; 32]);
             let w = &points[..4 * k as usize];
-            ((by.encode)(k, &points, w, &mut code, &mut root), code, root)
+            (by.encode(k, &points, w, &mut code, &mut root), code, root)
         });
         assert_eq!(proved, reference);
     }
@@ -152,13 +98,13 @@ fn inputs_of_draws_may_overlap() {
         let items = &Honest::random(&mut random, 1, 2, 2, 2).items;
         let digest = &random.digest();
         let x: Vec<u32> = random.inputs(8).iter().map(|input| input.number()).collect();
-        let x = &lomvuze_samples::bytes(&x);
+        let x = &lomvuze_trials::bytes(&x);
         let [proved, reference] = [PROVED, REFERENCE].map(|by| {
             let (mut seed, mut challenge, mut positions, mut r) = ([0; 32], [0; 4], [0; 1024], [0; 24]);
             let answers = [
-                (by.draw_challenge)(1, 2, 2, 2, items, &items[..8], &mut seed, &mut challenge),
-                (by.draw_positions)(64, 2, 256, 2, digest, digest, &mut positions),
-                (by.draw_r)(6, 8, x, x, &mut r),
+                by.draw_challenge(1, 2, 2, 2, items, &items[..8], &mut seed, &mut challenge),
+                by.draw_positions(64, 2, 256, 2, digest, digest, &mut positions),
+                by.draw_r(6, 8, x, x, &mut r),
             ];
             assert_eq!(answers, [0; 3]);
             (seed, challenge, positions, r)

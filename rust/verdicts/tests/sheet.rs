@@ -5,39 +5,19 @@
 //! which answer.
 
 use lomvuze_reference::sheet::{listing, read, write, MOST_BYTES};
-use lomvuze_samples::sheet::damage::{damaged, failing, junk};
-use lomvuze_samples::sheet::{accepted, of_length, Buffers, Shape, GREATEST};
-use lomvuze_samples::Random;
+use lomvuze_trials::sheet::damage::{damaged, failing, junk};
+use lomvuze_trials::sheet::edges::Reader;
+use lomvuze_trials::sheet::{accepted, of_length, Buffers, Shape, GREATEST};
+use lomvuze_trials::{library, Library, Name, Random};
+use lomvuze_verdicts as calls;
 use std::collections::BTreeMap;
 
-/// The proved reader, named as the reference is.
-mod sheet {
-    use lomvuze_reference::sheet::Reading;
+const PROVED: Library = library!(calls);
 
-    pub use lomvuze_proved::listing;
+/// The proved reader, and the listing of the layers below it.
+const READER: Reader = Reader { library: PROVED, listing: lomvuze_proved::listing };
 
-    pub fn read(
-        sheet: &[u8],
-        a: &mut [u8],
-        b: &mut [u8],
-        c: &mut [u8],
-        items: &mut [u8],
-        wits: &mut [u8],
-    ) -> Reading {
-        let held = [0xAAAA_AAAA; 7];
-        let mut sizes = held;
-        let answer = lomvuze_verdicts::read_sheet(sheet, a, b, c, items, wits, &mut sizes);
-        if answer != 0 {
-            assert_eq!(sizes, held, "a refusal wrote sizes");
-            sizes = [0; 7];
-        }
-        let [m, n, k, a, b, c, pairs] = sizes;
-        Reading { answer, m, n, k, a, b, c, pairs }
-    }
-}
-
-#[path = "../../samples/sheet_edges.rs"]
-mod edges;
+lomvuze_trials::sheet_edge_tests!(READER);
 
 /// Sheets that are tried, at least.
 const SHEETS: usize = 120_000;
@@ -48,15 +28,12 @@ const EACH_ANSWER: usize = 1_000;
 /// How many sheets had which answer.
 type Answers = BTreeMap<u32, usize>;
 
-/// The checks of a sheet, in order.
-const CHECKS: [u32; 5] = [1, 2, 3, 4, 13];
-
 /// Reads a sheet by both, into buffers of these lengths, and compares.
 fn compare_into(lengths: [usize; 5], text: &[u8], answers: &mut Answers) -> u32 {
     let mut by_reference = Buffers::new(lengths);
     let mut by_proved = by_reference.clone();
     let reading = by_reference.read(read, text);
-    assert_eq!(by_proved.read(sheet::read, text), reading, "{}", text.escape_ascii());
+    assert_eq!(READER.read(&mut by_proved, text), reading, "{}", text.escape_ascii());
     assert!(by_proved == by_reference, "other bytes: {}", text.escape_ascii());
     *answers.entry(reading.answer).or_default() += 1;
     reading.answer
@@ -65,7 +42,7 @@ fn compare_into(lengths: [usize; 5], text: &[u8], answers: &mut Answers) -> u32 
 /// Reads and lists a sheet by both, and compares.
 fn compare(text: &[u8], answers: &mut Answers) -> u32 {
     assert_eq!(
-        sheet::listing(text).escape_ascii().to_string(),
+        (READER.listing)(text).escape_ascii().to_string(),
         listing(text).escape_ascii().to_string(),
         "{}",
         text.escape_ascii()
@@ -79,11 +56,12 @@ fn compare_around(random: &mut Random, shape: &Shape, answers: &mut Answers) {
     let says = accepted(random, shape);
     let text = write(&says);
     assert_eq!(compare(&text, answers), 0);
-    for (i, check) in CHECKS.into_iter().enumerate() {
-        let later: Vec<u32> = CHECKS[i + 1..].iter().copied().filter(|_| random.below(2) == 0).collect();
-        for checks in [vec![check], [vec![check], later].concat()] {
+    let all = Name::ReadSheet.checks();
+    for (i, check) in all.iter().enumerate() {
+        let later: Vec<u32> = all[i + 1..].iter().copied().filter(|_| random.below(2) == 0).collect();
+        for checks in [vec![*check], [vec![*check], later].concat()] {
             let text = failing(random, &says, &checks);
-            let expected = if text.len() > MOST_BYTES { 1 } else { check };
+            let expected = if text.len() > MOST_BYTES { 1 } else { *check };
             assert_eq!(compare(&text, answers), expected, "{checks:?}: {}", text.escape_ascii());
         }
     }
@@ -103,7 +81,7 @@ fn compare_around(random: &mut Random, shape: &Shape, answers: &mut Answers) {
 /// Every answer was given often, and no other one.
 fn finish(answers: &Answers, each: usize) {
     println!("{} sheets, by answer {answers:?}", answers.values().sum::<usize>());
-    assert!(answers.keys().eq([0].iter().chain(&CHECKS)), "{answers:?}");
+    assert!(answers.keys().eq([0].iter().chain(Name::ReadSheet.checks())), "{answers:?}");
     assert!(answers.values().all(|count| *count >= each), "{answers:?}");
 }
 

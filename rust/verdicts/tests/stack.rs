@@ -6,8 +6,8 @@
 //! how far the call came. Counted from the frame that makes the call, so passing the arguments is included.
 
 use lomvuze_reference::sheet::{write, MOST_BYTES};
-use lomvuze_samples::sheet::{of_length, Buffers, GREATEST};
-use lomvuze_samples::{library, points, Call, Honest, Library, Name, Random, NAMES};
+use lomvuze_trials::sheet::{of_length, Buffers, GREATEST};
+use lomvuze_trials::{library, points, Call, Honest, Library, Name, Random, NAMES};
 use lomvuze_verdicts as calls;
 use std::ffi::c_void;
 use std::hint::black_box;
@@ -78,13 +78,15 @@ fn depth(work: &mut dyn FnMut() -> u64) -> (usize, u64) {
 
 // ---- What the header states
 
-/// From the line of the call in the header's list of stacks: its name, then the bytes.
+/// From the line `Stack: N bytes.` of the comment that stands before the call's prototype.
 fn stated(name: &str) -> usize {
     let header = include_str!("../../../include/lomvuze.h");
-    let call = format!("lomvuze_{name}");
-    let list = header.split("deepest stack of each call").nth(1).unwrap();
-    let line = list.lines().find(|line| line.contains(&call)).unwrap();
-    line.split_whitespace().last().unwrap().replace(',', "").parse().unwrap()
+    let (before, _) = header.split_once(&format!("_t lomvuze_{name}(")).unwrap();
+    let (_, comment) = before.rsplit_once("/*").unwrap();
+    let (_, stack) = comment.split_once("\n * Stack: ").unwrap_or_else(|| {
+        panic!("the comment of lomvuze_{name} in include/lomvuze.h has no line `Stack: N bytes.`")
+    });
+    stack.split_once(" bytes.\n").unwrap().0.replace(',', "").parse().unwrap()
 }
 
 /// Runs a call that is accepted, with this answer.
@@ -98,7 +100,10 @@ fn measure(name: &str, accepted: u64, work: &mut dyn FnMut() -> u64) -> usize {
 }
 
 fn test(name: Name, mut call: Call) -> usize {
-    measure(&name.exported(), call.accepted(), &mut || call.run(&PROVED))
+    let accepted = call.accepted();
+    let inputs: Vec<&[u8]> = call.inputs.iter().map(|input| &input[..]).collect();
+    let mut outputs: Vec<&mut [u8]> = call.outputs.iter_mut().map(|output| &mut output[..]).collect();
+    measure(name.exported(), accepted, &mut || (PROVED.call)(name, &call.numbers, &inputs, &mut outputs))
 }
 
 #[test]

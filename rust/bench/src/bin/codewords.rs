@@ -5,9 +5,9 @@
 //! Ends with status 1 where the proved transform takes more than twice as long as the plain one.
 
 use bench::measure::best;
-use bench::plain;
+use bench::plain::code;
 use lomvuze_proved as proved;
-use lomvuze_samples::Random;
+use lomvuze_trials::Random;
 use std::hint::black_box;
 use std::process::ExitCode;
 
@@ -32,15 +32,15 @@ const TRANSFORM: Way = Way {
     name: "transform",
     rounds: 40,
     proved: |w, out| assert_eq!(proved::codeword(w, out), 0),
-    plain: plain::codeword,
+    plain: code::codeword,
 };
 
 /// A round of sums takes some fifty times as long.
 const SUMS: Way = Way {
     name: "direct sums",
     rounds: 1,
-    proved: |w, out| assert_eq!(proved::codeword_at(w, &plain::POINTS, out), 0),
-    plain: |w, out| plain::codeword_at(w, &plain::POINTS, out),
+    proved: |w, out| assert_eq!(proved::codeword_at(w, &code::POINTS, out), 0),
+    plain: |w, out| code::codeword_at(w, &code::POINTS, out),
 };
 
 fn random_witnesses() -> Vec<Witness> {

@@ -5,7 +5,7 @@
 
 use bench::measure::best;
 use lomvuze_proved as proved;
-use lomvuze_samples::{points, Random};
+use lomvuze_trials::{points, Random};
 use lomvuze_verdicts as verdicts;
 use std::hint::black_box;
 use std::process::ExitCode;

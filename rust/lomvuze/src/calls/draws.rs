@@ -5,12 +5,14 @@ use crate::buffers::{items_buffer, numbers_buffer, output};
 use crate::refusal::accepted;
 use crate::sizes::MOST_NUMBERS;
 use crate::{Challenge, Digest, Drawn, Item, Positions, PublicInputs, Quotient, Refusal, Seed, Sizes, R};
+use alloc::vec;
+use lomvuze_calls::layout::NUMBER_BYTES;
 use lomvuze_verdicts as library;
 
 /// Draws the challenge of up to 8 items from their bytes and those of the [`quotient`](crate::quotient).
 ///
 /// Who verifies a fold draws its challenge from the items and the quotient that are verified, and takes it from nobody.
-/// [The page of the crate](crate#what-drawing-settles) says what this settles, and what it does not.
+/// [What drawing settles](crate#what-the-caller-sees-to), and what it does not, is among what the caller sees to.
 ///
 /// The seed is the SHA-256 digest of the byte 2, m, n, k, l, the items and the quotient. The challenge is l plus a
 /// remainder modulo p − l: that of the first eight bytes of the digest of the byte 3 and the seed. Numbers are hashed in
@@ -53,16 +55,17 @@ use lomvuze_verdicts as library;
 pub fn draw_challenge(sizes: Sizes, items: &[Item], quotient: &Quotient) -> Result<Drawn, Refusal> {
     let Sizes { m, n, k } = sizes;
     let (l, items, quotient) = (count(items), items_buffer(sizes, items), numbers_buffer(quotient));
-    let (mut seed, mut challenge) = ([0; 32], [0; 4]);
+    let (mut seed, mut challenge) = (Digest::default(), [0; NUMBER_BYTES]);
     accepted(library::draw_challenge(m, n, k, l, &items, &quotient, &mut seed, &mut challenge))?;
-    Ok(Drawn { seed: Seed::lent(seed), challenge: u32::from_le_bytes(challenge).into() })
+    Ok(Drawn { seed: seed.into(), challenge: u32::from_le_bytes(challenge).into() })
 }
 
-/// Draws t positions for a fold of l items at a challenge, from its seed and the root of its new item.
+/// Draws t positions for a fold of l items at a challenge, from its seed and the root of its new item. The m and n of the
+/// sizes are not looked at.
 ///
 /// Who verifies a fold draws its positions with the seed and the challenge that [`draw_challenge`] gave for its items and
 /// its quotient, and with the root of the new item that is verified.
-/// [The page of the crate](crate#what-drawing-settles) says what this settles, and what it does not.
+/// [What drawing settles](crate#what-the-caller-sees-to), and what it does not, is among what the caller sees to.
 ///
 /// Drawn positions repeat, and a verdict rests on k different ones at least. So draw more than k, up to 4k, and count
 /// ([`Positions::count_different`]). Of random positions, 4k are too few in one draw of two million where k is 2, and more
@@ -90,36 +93,36 @@ pub fn draw_challenge(sizes: Sizes, items: &[Item], quotient: &Quotient) -> Resu
 ///     let drawn = draw_challenge(sizes, &items, &Quotient::default())?;
 ///
 ///     // The fold of one item has that item's root.
-///     let draw = |t| draw_positions(8, items.len(), t, drawn.challenge, &drawn.seed, &root);
+///     let draw = |t| draw_positions(sizes, items.len(), t, drawn.challenge, &drawn.seed, &root);
 ///     let positions = draw(32)?;
 ///     assert!(positions.iter().all(|position| *position < 32));
 ///     assert!((8..32).contains(&positions.count_different()));
 ///     assert_eq!(draw(3)?, positions[..3]);
 ///
 ///     assert_eq!(draw(33), Err(Refusal::Sizes));
-///     let at_a_node = draw_positions(8, 1, 32, Challenge::from(0), &drawn.seed, &root);
+///     let at_a_node = draw_positions(sizes, 1, 32, Challenge::from(0), &drawn.seed, &root);
 ///     assert_eq!(at_a_node, Err(Refusal::Challenge));
 ///     Ok(())
 /// }
 /// ```
 pub fn draw_positions(
-    k: u32,
+    sizes: Sizes,
     l: usize,
     t: usize,
     challenge: Challenge,
     seed: &Seed,
     root: &Digest,
 ) -> Result<Positions, Refusal> {
-    let mut positions = vec![0; 4 * t.min(MOST_NUMBERS)];
+    let mut positions = vec![0; NUMBER_BYTES * t.min(MOST_NUMBERS)];
     let (l, t, at) = (number(l), number(t), challenge.into());
-    accepted(library::draw_positions(k, l, t, at, seed.as_bytes(), root, &mut positions))?;
+    accepted(library::draw_positions(sizes.k, l, t, at, seed.as_bytes(), root, &mut positions))?;
     Positions::from_bytes(&positions)
 }
 
 /// Draws r of an item from its root and its x, before it is [`cast`](crate::cast). The k of the sizes is not looked at.
 ///
 /// Who is handed an item compares its r with the one drawn from its root and its x, or puts that in.
-/// [The page of the crate](crate#what-drawing-settles) says what this settles, and what it does not.
+/// [What drawing settles](crate#what-the-caller-sees-to), and what it does not, is among what the caller sees to.
 ///
 /// Number j of r, from 0, is the first eight bytes, modulo p, of the SHA-256 digest of the byte 5, the root, x and j.
 /// Numbers are hashed in four bytes each, and all bytes are read lowest first.
@@ -145,7 +148,7 @@ pub fn draw_positions(
 ///         [(0, 1, 1), (1, 2, 1)],
 ///     );
 ///     let (points, witness) = (Points::built_in(), Witness::from([2, 3]));
-///     let root = encode(sizes.k, &points, &witness)?.root;
+///     let root = encode(sizes, &points, &witness)?.root;
 ///     let cast_drawn = |x: [u32; 3]| {
 ///         let x = PublicInputs::from(x);
 ///         cast(sizes, &points, &circuit, &draw_r(sizes, &root, &x)?, &x, &witness)
@@ -162,7 +165,7 @@ pub fn draw_positions(
 /// }
 /// ```
 pub fn draw_r(sizes: Sizes, root: &Digest, x: &PublicInputs) -> Result<R, Refusal> {
-    let mut r = output(sizes, |sizes| 4 * sizes.m as usize);
+    let mut r = output(sizes, |sizes| NUMBER_BYTES * sizes.m as usize);
     accepted(library::draw_r(sizes.m, sizes.n, root, &numbers_buffer(x), &mut r))?;
     R::from_bytes(&r)
 }

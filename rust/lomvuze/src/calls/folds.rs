@@ -8,8 +8,9 @@ use crate::{
     Challenge, Circuit, Folded, Item, Opening, Points, Positions, Quotient, Refusal, Sizes, Verified,
     Witness, MAX_L,
 };
+use alloc::vec::Vec;
+use core::slice::from_ref;
 use lomvuze_verdicts as library;
-use std::slice::from_ref;
 
 /// A buffer for the quotient of so many items.
 fn quotient_output(sizes: Sizes, l: usize) -> Vec<u8> {
@@ -154,7 +155,8 @@ pub fn fold(
 }
 
 /// Verifies a fold of up to 8 items, and counts the SHA-256 blocks that this takes: see [`Verified`]. It sees neither
-/// circuit nor witness: only together with [`decide`](crate::decide) of the same new item it is a verdict on the items.
+/// circuit nor witness: only together with [`decide`](crate::decide) of the same new item it is a verdict on the items, and
+/// not that each of them holds: [`Sizes::challenge_bound`] says at how many challenges a list with a false item can pass.
 /// Whether challenge and positions are drawn ones is not tested: who verifies draws them first.
 ///
 /// `openings` has, for each item and last for the new item, what [`open`](crate::open) returned for its witness at
@@ -190,7 +192,7 @@ pub fn fold(
 ///         fold(sizes, challenge, &points, &circuit, &items, std::slice::from_ref(&witness))?;
 ///     let positions = Positions::from([1, 5]);
 ///     let mut openings =
-///         [open(2, &points, &witness, &positions)?, open(2, &points, &new_witness, &positions)?];
+///         [open(sizes, &points, &witness, &positions)?, open(sizes, &points, &new_witness, &positions)?];
 ///     let verified = verify(sizes, challenge, &items, &positions, &quotient, &item, &openings);
 ///     assert_eq!(verified, Verified { verdict: Ok(()), blocks: 28 });
 ///     assert_eq!(verified.blocks, sizes.verify_blocks(1, 2));
@@ -215,7 +217,7 @@ pub fn verify(
     let (l, t, at) = (count(items), count(positions), challenge.into());
     let (items, new_item) = (items_buffer(sizes, items), items_buffer(sizes, from_ref(new_item)));
     // Openings that cannot be put in order fail check 2 here too, as an empty buffer.
-    let openings = in_order(k, l, t, openings).unwrap_or_default();
+    let openings = in_order(sizes, l, t, openings).unwrap_or_default();
     let (positions, quotient) = (numbers_buffer(positions), numbers_buffer(quotient));
     let answer = library::verify(m, n, k, l, t, at, &items, &positions, &quotient, &new_item, &openings);
     Verified::from_answer(answer)

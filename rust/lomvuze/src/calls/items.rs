@@ -3,8 +3,8 @@
 use crate::buffers::{circuit_buffers, items_buffer, numbers_buffer, output};
 use crate::refusal::accepted;
 use crate::{Circuit, Item, Points, PublicInputs, Refusal, Sizes, Witness, R};
+use core::slice::from_ref;
 use lomvuze_verdicts as library;
-use std::slice::from_ref;
 
 /// The item of a claim: e = 0, r and x as given, and the root of the witness's codeword. Its value has to be
 /// 0, as it is for every r when every row of the circuit holds.
@@ -34,7 +34,7 @@ use std::slice::from_ref;
 ///     let circuit = Circuit::new([(0, 2, 1)], [(0, 3, 1)], [(0, 1, 1)]);
 ///     let (points, r, witness) = (Points::built_in(), R::default(), Witness::from([2, 3]));
 ///     let item = cast(sizes, &points, &circuit, &r, &PublicInputs::from([1, 6]), &witness)?;
-///     assert_eq!((item.e, item.root), (0, encode(2, &points, &witness)?.root));
+///     assert_eq!((item.e, item.root), (0, encode(sizes, &points, &witness)?.root));
 ///
 ///     let seven = cast(sizes, &points, &circuit, &r, &PublicInputs::from([1, 7]), &witness);
 ///     assert_eq!(seven, Err(Refusal::Claim));
@@ -86,7 +86,7 @@ pub fn cast(
 ///     let sizes = Sizes { m: 0, n: 2, k: 2 };
 ///     let circuit = Circuit::new([(0, 2, 1)], [(0, 3, 1)], [(0, 1, 1)]);
 ///     let (points, witness) = (Points::built_in(), Witness::from([4, 5]));
-///     let root = encode(2, &points, &witness)?.root;
+///     let root = encode(sizes, &points, &witness)?.root;
 ///     let item = Item::new(R::default(), PublicInputs::from([1, 20]), root);
 ///     decide(sizes, &points, &circuit, &item, &witness)?;
 ///

@@ -4,6 +4,7 @@ use crate::buffers::output;
 use crate::refusal::accepted;
 use crate::sizes::ENTRY_BYTES;
 use crate::{Circuit, Entry, Item, Refusal, Sheet, Sizes, Witness, MAX_ENTRIES, MAX_PAIRS};
+use alloc::vec::Vec;
 use lomvuze_verdicts as library;
 
 /// The parts of one length that the library wrote at the front of a buffer.
@@ -73,7 +74,7 @@ fn front<T>(
 ///     let points = Points::built_in();
 ///     assert_eq!(decide(sizes, &points, &circuit, &items[0], &witnesses[0]), Err(Refusal::Root));
 ///     for (item, witness) in items.iter_mut().zip(&witnesses) {
-///         item.root = encode(sizes.k, &points, witness)?.root;
+///         item.root = encode(sizes, &points, witness)?.root;
 ///     }
 ///     decide(sizes, &points, &circuit, &items[0], &witnesses[0])?;
 ///     let second = decide(sizes, &points, &circuit, &items[1], &witnesses[1]);

@@ -7,6 +7,7 @@ use lomvuze::{
     Challenge, Circuit, Folded, Item, Opening, Points, Positions, PublicInputs, Refusal, Seed, Sizes,
     Verified, Witness, R,
 };
+use std::collections::BTreeMap;
 
 /// A fold of two items with m = 1, n = 2, k = 4 and t = 3, with lent points and all else that a call takes. The circuit has no
 /// entries, so every witness has the value 0.
@@ -40,7 +41,7 @@ impl Arguments {
         let positions = Positions::from([0, 15, 7]);
         let folded = fold(sizes, Challenge::from(100), &points, &circuit, &items, &witnesses)?;
         let opened = witnesses.iter().chain([&folded.witness]);
-        let openings = opened.map(|w| open(4, &points, w, &positions)).collect::<Result<_, _>>()?;
+        let openings = opened.map(|w| open(sizes, &points, w, &positions)).collect::<Result<_, _>>()?;
         let (witness, seed) = (witnesses[0].clone(), draw_challenge(sizes, &items, &folded.quotient)?.seed);
         Ok(Arguments {
             sizes,
@@ -59,7 +60,7 @@ impl Arguments {
     }
 
     pub fn encode(&self) -> Result<(), Refusal> {
-        encode(self.sizes.k, &self.points, &self.witness).map(drop)
+        encode(self.sizes, &self.points, &self.witness).map(drop)
     }
 
     pub fn cast(&self) -> Result<(), Refusal> {
@@ -76,11 +77,11 @@ impl Arguments {
     }
 
     pub fn open(&self) -> Result<(), Refusal> {
-        open(self.sizes.k, &self.points, &self.witness, &self.positions).map(drop)
+        open(self.sizes, &self.points, &self.witness, &self.positions).map(drop)
     }
 
     pub fn interleave(&self) -> Result<(), Refusal> {
-        interleave(self.sizes.k, &self.openings).map(drop)
+        interleave(self.sizes, &self.openings).map(drop)
     }
 
     /// The verdict. Where it accepts, nine openings of nine blocks each are hashed, and where check 2 refuses none.
@@ -104,7 +105,7 @@ impl Arguments {
     /// As many positions as there are.
     pub fn draw_positions(&self) -> Result<(), Refusal> {
         let (l, t, root) = (self.items.len(), self.positions.len(), &self.folded.item.root);
-        draw_positions(self.sizes.k, l, t, Challenge::from(100), &self.seed, root).map(drop)
+        draw_positions(self.sizes, l, t, Challenge::from(100), &self.seed, root).map(drop)
     }
 
     pub fn draw_r(&self) -> Result<(), Refusal> {
@@ -114,35 +115,78 @@ impl Arguments {
 
 pub type Call = fn(&Arguments) -> Result<(), Refusal>;
 
-pub const CALLS: [Call; 11] = [
-    Arguments::encode,
-    Arguments::cast,
-    Arguments::quotient,
-    Arguments::fold,
-    Arguments::open,
-    Arguments::interleave,
-    Arguments::verify,
-    Arguments::decide,
-    Arguments::draw_challenge,
-    Arguments::draw_positions,
-    Arguments::draw_r,
+/// Every call but `read_sheet`, by its name.
+pub const CALLS: &[(&str, Call)] = &[
+    ("encode", Arguments::encode),
+    ("cast", Arguments::cast),
+    ("quotient", Arguments::quotient),
+    ("fold", Arguments::fold),
+    ("open", Arguments::open),
+    ("interleave", Arguments::interleave),
+    ("verify", Arguments::verify),
+    ("decide", Arguments::decide),
+    ("draw_challenge", Arguments::draw_challenge),
+    ("draw_positions", Arguments::draw_positions),
+    ("draw_r", Arguments::draw_r),
 ];
+
+/// The calls that look at k.
+pub const TAKE_K: &[&str] = &[
+    "encode",
+    "cast",
+    "quotient",
+    "fold",
+    "open",
+    "interleave",
+    "verify",
+    "decide",
+    "draw_challenge",
+    "draw_positions",
+];
+
+/// The calls that have a buffer whose length k gives: those that look at k, but for two that draw.
+pub const WITH_BUFFERS_OF_K: &[&str] =
+    &["encode", "cast", "quotient", "fold", "open", "interleave", "verify", "decide"];
+
+/// The calls that look at m and n.
+pub const TAKE_M_AND_N: &[&str] =
+    &["cast", "quotient", "fold", "verify", "decide", "draw_challenge", "draw_r"];
+
+pub const TAKE_POINTS: &[&str] = &["encode", "cast", "quotient", "fold", "open", "decide"];
+pub const TAKE_CIRCUIT: &[&str] = &["cast", "quotient", "fold", "decide"];
+pub const TAKE_ITEMS: &[&str] = &["quotient", "fold", "verify", "draw_challenge"];
+pub const TAKE_WITNESS: &[&str] = &["encode", "cast", "open"];
+pub const TAKE_WITNESSES: &[&str] = &["quotient", "fold"];
+pub const TAKE_NEW_ITEM: &[&str] = &["verify", "decide"];
+pub const TAKE_OPENINGS: &[&str] = &["interleave", "verify"];
+pub const TAKE_POSITIONS: &[&str] = &["open", "verify", "draw_positions"];
 
 /// No call here may ask for more. Where sizes or lists are very long, a buffer for them would be longer.
 pub const MOST: usize = 256 * 1024;
 
-/// The verdict of a call, which may ask for no long buffer: 0, or the number of a check.
-pub fn verdict(call: impl FnOnce() -> Result<(), Refusal>) -> u32 {
+/// The answer of a call, which may ask for no long buffer.
+pub fn answer(call: impl FnOnce() -> Result<(), Refusal>) -> Result<(), Refusal> {
     let (longest, result) = longest_buffer(call);
     assert!(longest <= MOST, "{longest} bytes in one buffer");
-    result.map_or_else(Refusal::number, |()| 0)
+    result
 }
 
-/// The verdicts of the eleven calls after a change.
-pub fn verdicts(change: impl Fn(&mut Arguments)) -> [u32; 11] {
+/// The calls that are refused after a change, and by which check. All others accept.
+pub fn refusals(change: impl Fn(&mut Arguments)) -> BTreeMap<&'static str, Refusal> {
     let mut arguments = Arguments::new().unwrap();
     change(&mut arguments);
-    CALLS.map(|call| verdict(|| call(&arguments)))
+    let refusal = |(name, call): &(&'static str, Call)| Some((*name, answer(|| call(&arguments)).err()?));
+    CALLS.iter().filter_map(refusal).collect()
+}
+
+/// These calls, refused by one check.
+pub fn by(refusal: Refusal, calls: &[&'static str]) -> BTreeMap<&'static str, Refusal> {
+    calls.iter().map(|name| (*name, refusal)).collect()
+}
+
+/// These calls, refused by check 2.
+pub fn by_sizes(calls: &[&'static str]) -> BTreeMap<&'static str, Refusal> {
+    by(Refusal::Sizes, calls)
 }
 
 /// Changes a list of numbers as a vector.

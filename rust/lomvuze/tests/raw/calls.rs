@@ -7,14 +7,15 @@
 #![allow(clippy::too_many_arguments)]
 
 use crate::layout::*;
+pub use crate::sheet::read_sheet;
 use lomvuze::{Opening, Positions, Seed, Sizes, Verified};
-use lomvuze_samples::bytes;
+use lomvuze_trials::bytes;
 
 pub fn encode(k: u32, points: &[u8], w: &[u8], code_out: &mut [u8], root_out: &mut [u8]) -> u32 {
     answer(|| {
         let sizes = Sizes { m: 0, n: 1, k };
         check_2(code_out.len() == sizes.codeword_bytes() && root_out.len() == 32)?;
-        let encoded = lomvuze::encode(k, &numbers(points)?, &numbers(w)?)?;
+        let encoded = lomvuze::encode(sizes, &numbers(points)?, &numbers(w)?)?;
         code_out.copy_from_slice(&bytes(&encoded.code));
         root_out.copy_from_slice(&encoded.root);
         Ok(())
@@ -104,19 +105,20 @@ pub fn open(k: u32, t: u32, points: &[u8], w: &[u8], positions: &[u8], openings_
         let positions: Positions = numbers(positions)?;
         check_2(positions.len() == t as usize)?;
         check_2(openings_out.len() == sizes.openings_bytes(positions.len()))?;
-        let openings = lomvuze::open(k, &numbers(points)?, &numbers(w)?, &positions)?;
-        openings_out.copy_from_slice(&openings_bytes(&openings));
+        let openings = lomvuze::open(sizes, &numbers(points)?, &numbers(w)?, &positions)?;
+        openings_out.copy_from_slice(&openings_bytes(k, &openings));
         Ok(())
     })
 }
 
 pub fn interleave(k: u32, l: u32, t: u32, opened: &[u8], openings_out: &mut [u8]) -> u32 {
     answer(|| {
-        let openings = openings(Sizes { m: 0, n: 1, k }, opened)?;
+        let sizes = Sizes { m: 0, n: 1, k };
+        let openings = openings(sizes, opened)?;
         check_2(t > 0 && openings.len() as u64 == (l as u64 + 1) * t as u64)?;
         check_2(openings_out.len() == opened.len())?;
         let of_each: Vec<&[Opening]> = openings.chunks(t as usize).collect();
-        openings_out.copy_from_slice(&openings_bytes(&lomvuze::interleave(k, &of_each)?));
+        openings_out.copy_from_slice(&openings_bytes(k, &lomvuze::interleave(sizes, &of_each)?));
         Ok(())
     })
 }
@@ -197,9 +199,10 @@ pub fn draw_positions(
     positions_out: &mut [u8],
 ) -> u32 {
     answer(|| {
-        let (seed, root, t) = (Seed::lent(digest(seed)?), digest(root)?, t as usize);
+        let (seed, root, t) = (Seed::from(digest(seed)?), digest(root)?, t as usize);
         check_2(positions_out.len() == 4 * t)?;
-        let positions = lomvuze::draw_positions(k, l as usize, t, challenge.into(), &seed, &root)?;
+        let positions =
+            lomvuze::draw_positions(Sizes { m: 0, n: 1, k }, l as usize, t, challenge.into(), &seed, &root)?;
         positions_out.copy_from_slice(&bytes(&positions));
         Ok(())
     })

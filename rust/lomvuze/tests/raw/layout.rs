@@ -1,7 +1,8 @@
 //! Reads and writes the layout of `include/lomvuze.h` without the crate's help.
 
 use lomvuze::{Circuit, Digest, Entry, Item, Opening, Refusal, Sizes, Witness};
-use lomvuze_samples::{bytes, number_at};
+use lomvuze_trials::layout::{ItemLayout, OpeningLayout, DIGEST_BYTES};
+use lomvuze_trials::{bytes, number_at};
 
 pub fn answer(call: impl FnOnce() -> Result<(), Refusal>) -> u32 {
     match call() {
@@ -49,13 +50,13 @@ pub fn digest(buffer: &[u8]) -> Result<Digest, Refusal> {
 }
 
 pub fn items(sizes: Sizes, l: u32, buffer: &[u8]) -> Result<Vec<Item>, Refusal> {
-    let x = 4 + 4 * sizes.m as usize;
-    let root = x + 4 * sizes.n as usize;
-    let parts = parts(buffer, root + 32)?;
+    let layout = ItemLayout { m: sizes.m, n: sizes.n };
+    let parts = parts(buffer, layout.bytes())?;
     check_2(parts.len() == l as usize)?;
     let item = |part: &[u8]| {
-        let mut item = Item::new(numbers(&part[4..x])?, numbers(&part[x..root])?, digest(&part[root..])?);
-        item.e = number_at(part, 0);
+        let (r, x) = (numbers(&part[layout.r()])?, numbers(&part[layout.x()])?);
+        let mut item = Item::new(r, x, digest(&part[layout.root()])?);
+        item.e = number_at(part, layout.e().start);
         Ok(item)
     };
     parts.into_iter().map(item).collect()
@@ -70,11 +71,13 @@ pub fn witnesses(k: u32, buffer: &[u8]) -> Result<Vec<Witness>, Refusal> {
 }
 
 pub fn openings(sizes: Sizes, buffer: &[u8]) -> Result<Vec<Opening>, Refusal> {
+    let layout = OpeningLayout { k: sizes.k };
     let opening = |part: &[u8]| {
-        let path = part[4..].chunks(32).map(digest).collect::<Result<_, _>>()?;
-        Ok(Opening { value: number_at(part, 0), path })
+        let siblings = part[layout.siblings()].chunks(DIGEST_BYTES);
+        let path = siblings.map(digest).collect::<Result<_, _>>()?;
+        Ok(Opening { value: number_at(part, layout.value().start), path })
     };
-    parts(buffer, sizes.opening_bytes())?.into_iter().map(opening).collect()
+    parts(buffer, layout.bytes())?.into_iter().map(opening).collect()
 }
 
 /// From position by position to item by item, as the crate takes them.
@@ -86,9 +89,21 @@ pub fn by_item(l: u32, openings: Vec<Opening>) -> Vec<Vec<Opening>> {
 // ---- Writing
 
 pub fn item_bytes(item: &Item) -> Vec<u8> {
-    [bytes(&[item.e]), bytes(&item.r), bytes(&item.x), item.root.to_vec()].concat()
+    let layout = ItemLayout { m: item.r.len() as u32, n: item.x.len() as u32 };
+    let mut written = vec![0; layout.bytes()];
+    written[layout.e()].copy_from_slice(&bytes(&[item.e]));
+    written[layout.r()].copy_from_slice(&bytes(&item.r));
+    written[layout.x()].copy_from_slice(&bytes(&item.x));
+    written[layout.root()].copy_from_slice(&item.root);
+    written
 }
 
-pub fn openings_bytes(openings: &[Opening]) -> Vec<u8> {
-    openings.iter().flat_map(|opening| [bytes(&[opening.value]), opening.path.concat()].concat()).collect()
+pub fn openings_bytes(k: u32, openings: &[Opening]) -> Vec<u8> {
+    let layout = OpeningLayout { k };
+    let mut written = vec![0; openings.len() * layout.bytes()];
+    for (part, opening) in written.chunks_mut(layout.bytes()).zip(openings) {
+        part[layout.value()].copy_from_slice(&bytes(&[opening.value]));
+        part[layout.siblings()].copy_from_slice(&opening.path.concat());
+    }
+    written
 }

@@ -6,9 +6,10 @@
 
 use lomvuze::{Positions, Sizes, MAX_SHEET};
 use lomvuze_reference::sheet::{write, Reading};
-use lomvuze_samples::sheet::damage::{damaged, failing, junk};
-use lomvuze_samples::sheet::{accepted, of_length, Buffers, Shape, GREATEST};
-use lomvuze_samples::{library, points, Call, Chain, Comparison, Honest, Library, Random, NAMES};
+use lomvuze_trials::sheet::damage::{damaged, failing, junk};
+use lomvuze_trials::sheet::edges::Reader;
+use lomvuze_trials::sheet::{accepted, of_length, Buffers, Shape, GREATEST};
+use lomvuze_trials::{library, points, Call, Chain, Comparison, Honest, Library, Random, NAMES};
 use lomvuze_verdicts as verdicts;
 use std::collections::BTreeMap;
 
@@ -16,14 +17,23 @@ mod calls;
 mod layout;
 mod sheet;
 
-#[path = "../../../samples/edges.rs"]
-mod edges;
-
-#[path = "../../../samples/sheet_edges.rs"]
-mod sheet_edges;
-
 const CRATE: Library = library!(calls);
 const LIBRARY: Library = library!(verdicts);
+
+/// The crate's reader of sheets. It has no listing; the reference has one.
+const READER: Reader = Reader { library: CRATE, listing: lomvuze_reference::sheet::listing };
+
+mod edges {
+    use super::CRATE;
+
+    lomvuze_trials::edge_tests!(CRATE);
+}
+
+mod sheet_edges {
+    use super::READER;
+
+    lomvuze_trials::sheet_edge_tests!(READER);
+}
 
 fn comparison() -> Comparison {
     Comparison::new(&CRATE, &LIBRARY)
@@ -113,7 +123,7 @@ fn drawn_chains() {
 fn compare_sheet(text: &[u8]) -> u32 {
     let mut by_crate = Buffers::new(Buffers::LENGTHS);
     let mut by_library = by_crate.clone();
-    let Reading { answer, m, n, k, a, b, c, pairs } = by_crate.read(sheet::read, text);
+    let Reading { answer, m, n, k, a, b, c, pairs } = READER.read(&mut by_crate, text);
     let (mut sizes, [a_out, b_out, c_out, items, wits]) = ([0; 7], &mut by_library.0);
     let by_library_answer = verdicts::read_sheet(text, a_out, b_out, c_out, items, wits, &mut sizes);
     assert_eq!(answer, by_library_answer, "{}", text.escape_ascii());

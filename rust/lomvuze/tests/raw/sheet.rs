@@ -3,12 +3,9 @@
 
 use lomvuze::{Circuit, Entry, Item, Refusal, Sizes, Witness};
 use lomvuze_reference::sheet::{Pair, Reading, Sheet};
-use lomvuze_samples::sheet::Buffers;
+use lomvuze_trials::sheet::Buffers;
 
-/// The crate has no listing; the edges of sheets ask for one.
-pub use lomvuze_reference::sheet::listing;
-
-/// What the crate read, as the samples have it.
+/// What the crate read, as the trials have it.
 fn says(sheet: lomvuze::Sheet) -> Sheet {
     let lomvuze::Sheet { sizes: Sizes { m, n, k }, circuit: Circuit { a, b, c }, items, witnesses, .. } =
         sheet;
@@ -24,26 +21,27 @@ fn says(sheet: lomvuze::Sheet) -> Sheet {
     Sheet { size: [m, n, k], a, b, c, end: pairs.len() as u32, pairs }
 }
 
-pub fn read(
+pub fn read_sheet(
     text: &[u8],
     a: &mut [u8],
     b: &mut [u8],
     c: &mut [u8],
     items: &mut [u8],
     wits: &mut [u8],
-) -> Reading {
+    sizes: &mut [u32; 7],
+) -> u32 {
     let outs = [a, b, c, items, wits];
     let lengths_fit = outs.each_ref().map(|out| out.len()) == Buffers::LENGTHS;
-    let refused = |refusal: Refusal| Reading { answer: refusal.number(), ..Reading::default() };
     match lomvuze::read_sheet(text) {
-        Err(Refusal::Sheet) => refused(Refusal::Sheet),
-        _ if !lengths_fit => refused(Refusal::Sizes),
-        Err(refusal) => refused(refusal),
+        Err(Refusal::Sheet) => Refusal::Sheet.number(),
+        _ if !lengths_fit => Refusal::Sizes.number(),
+        Err(refusal) => refusal.number(),
         Ok(sheet) => {
             let mut buffers = Buffers(outs.each_ref().map(|out| out.to_vec()));
-            let reading = buffers.put(&says(sheet));
+            let Reading { m, n, k, a, b, c, pairs, .. } = buffers.put(&says(sheet));
             outs.into_iter().zip(&buffers.0).for_each(|(out, buffer)| out.copy_from_slice(buffer));
-            reading
+            *sizes = [m, n, k, a, b, c, pairs];
+            0
         }
     }
 }

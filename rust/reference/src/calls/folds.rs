@@ -148,7 +148,7 @@ pub fn verify(
 
         let items = items(items_in, m, n)?;
         let quotient = elements(quotient)?;
-        let new = item(new_item, m)?;
+        let new = item(new_item, m, n)?;
         let openings = openings(openings_in, k)?;
 
         check_first_inputs(&items)?;
@@ -184,9 +184,10 @@ fn check_openings(
 
 /// 9: at every position, the new opened value is the combination of the items' opened values.
 fn check_values(l: usize, challenge: Element, openings: &[Opening]) -> Result<(), Refusal> {
+    let at = claims::lagrange_at(l, challenge);
     for shown in openings.chunks(l + 1) {
-        let values: Vec<Element> = shown.iter().map(|opening| opening.value).collect();
-        check(9, claims::combine_at(&values[..l], challenge) == values[l])?;
+        let values = shown[..l].iter().map(|opening| opening.value);
+        check(9, claims::combine_at(&at, values) == shown[l].value)?;
     }
     Ok(())
 }

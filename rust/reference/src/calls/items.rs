@@ -66,7 +66,7 @@ pub fn decide(
         length(witness, 4 * k)?;
 
         let circuit = circuit(a, b, c)?;
-        let item = item(item_in, m)?;
+        let item = item(item_in, m, n)?;
         let w = elements(witness)?;
 
         let points = check_points(points, k)?;

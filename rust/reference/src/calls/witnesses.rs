@@ -50,14 +50,13 @@ pub fn interleave(k: u32, l: u32, t: u32, opened: &[u8], openings_out: &mut [u8]
         let t = size_t(t, k)?;
         length(opened, (l + 1) * t * opening_length(k))?;
         length(openings_out, t * (l + 1) * opening_length(k))?;
-        let openings: Vec<&[u8]> = opened.chunks(opening_length(k)).collect();
-        let mut written = vec![];
-        for position in 0..t {
-            for item in 0..l + 1 {
-                written.extend(openings[item * t + position]);
+
+        let length = opening_length(k);
+        for (position, shown) in openings_out.chunks_mut((l + 1) * length).enumerate() {
+            for (item, opening) in shown.chunks_mut(length).enumerate() {
+                opening.copy_from_slice(&opened[(item * t + position) * length..][..length]);
             }
         }
-        openings_out.copy_from_slice(&written);
         Ok(())
     })
 }
