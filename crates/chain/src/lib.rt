@@ -1,5 +1,7 @@
 // The chain of calls of paper 01's first statement, in lent buffers: folding, an opening for each witness, interleaving them, verifying,
 // deciding.
+#![tactic(auto)]
+
 ghost use Rattle.std.specs.Prelude.{◌≡◌, true, suc, ◌*◌, length};
 ghost use Rattle.algebra.specs.Lists.{build, concat_to};
 ghost use Rattle.code.specs.Points.{depth};

@@ -1,28 +1,27 @@
--- Checks one after the other, and what a refusal leaves in a buffer. The code tests the opposite of a check's result r.
+-- Checks one after the other, and what a refusal leaves in a buffer. r is what the code's test of a check gave.
 use mathlib.Core.Path.{◌≡◌, refl, sym, ap, ◌∙◌}
-use mathlib.Core.Bool.{Bool, true, false, not, ◌&&◌}
+use mathlib.Core.Bool.{Bool, true, false, ◌&&◌}
 use mathlib.Core.List.{List}
 use Prim.Native.Nat.{ℕ, zero, suc}
-use borrow.Author.Tests.{not-true, not-false}
 use Rattle.theory.specs.Checks.{answer_if, written}
 use Rattle.theory.proofs.CheckLaws.{written-accepted}
 
 -- ---- answers
 
 -- A check that fails gives the answer.
-pub fails : (n : ℕ) {r b : Bool} (next : ℕ) → r ≡ b → not r ≡ true → n ≡ answer_if b n next
-fails n {r} {b} next e h = sym (ap (λ (t : Bool). answer_if t n next) (sym e ∙ not-true r h))
+pub fails : (n : ℕ) {r b : Bool} (next : ℕ) → r ≡ b → r ≡ false → n ≡ answer_if b n next
+fails n {r} {b} next e h = sym (ap (λ (t : Bool). answer_if t n next) (sym e ∙ h))
 
 -- Where a check passes, the answer is that of the checks behind it.
-pub passes : (n : ℕ) {r b : Bool} {x next : ℕ} → r ≡ b → not r ≡ false → x ≡ next → x ≡ answer_if b n next
-passes n {r} {b} {x} {next} e h k = k ∙ sym (ap (λ (t : Bool). answer_if t n next) (sym e ∙ not-false r h))
+pub passes : (n : ℕ) {r b : Bool} {x next : ℕ} → r ≡ b → r ≡ true → x ≡ next → x ≡ answer_if b n next
+passes n {r} {b} {x} {next} e h k = k ∙ sym (ap (λ (t : Bool). answer_if t n next) (sym e ∙ h))
 
 -- What a check's test says of the check.
-pub passed : {r b : Bool} → r ≡ b → not r ≡ false → b ≡ true
-passed {r} e h = sym e ∙ not-false r h
+pub passed : {r b : Bool} → r ≡ b → r ≡ true → b ≡ true
+passed e h = sym e ∙ h
 
-pub failed : {r b : Bool} → r ≡ b → not r ≡ true → b ≡ false
-failed {r} e h = sym e ∙ not-true r h
+pub failed : {r b : Bool} → r ≡ b → r ≡ false → b ≡ false
+failed e h = sym e ∙ h
 
 -- ---- buffers, for an answer r that is the one defined
 

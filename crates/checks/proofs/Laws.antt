@@ -1,11 +1,11 @@
 -- The laws of a loop that tests f at 0, 1, .. and stops at the first number that fails (`every i f ≡ true` where i is next), or goes on.
 use mathlib.Core.Path.{◌≡◌, refl, sym, ap₂, ◌∙◌}
-use mathlib.Core.Bool.{Bool, true, false, not, ◌&&◌}
+use mathlib.Core.Bool.{Bool, true, false, ◌&&◌}
 use Prim.Native.Nat.{ℕ, ◌+◌, ◌*◌, ◌%◌, ◌^◌, ◌≤◌, ◌<◌}
 use native.Mathlib.Nat.{pow-le-pow_right}
 use native.Mathlib.Numerals.{add-one}
 use native.Mathlib.Omega.{arith}
-use borrow.Author.Tests.{lt-ltb, le-ltb, not-true, not-false}
+use borrow.Author.Tests.{lt-ltb, le-ltb}
 use lib.Dec.{ltb}
 use Rattle.numbers.proofs.Tests.{◌&◌}
 use Rattle.theory.specs.Checks.{every}
@@ -27,12 +27,12 @@ every_more f i e h = rw add-one (e & h)
 pub every-all : (n : ℕ) (f : ℕ → Bool) (i : ℕ) → i ≤ n → n ≤ i → every i f ≡ true → true ≡ every n f
 every-all n f i l g e = let q : n ≡ i = omega arith in rw q (sym e)
 
--- The same for a turn that found r, and the code tests the opposite of r.
-pub turn-fails : (n : ℕ) (f : ℕ → Bool) (i : ℕ) {r : Bool} → i < n → r ≡ f i → not r ≡ true → false ≡ every n f
-turn-fails n f i {r} l e h = every-fails n f i l (sym e ∙ not-true r h)
+-- The same for a turn that found r.
+pub turn-fails : (n : ℕ) (f : ℕ → Bool) (i : ℕ) {r : Bool} → i < n → r ≡ f i → r ≡ false → false ≡ every n f
+turn-fails n f i l e h = every-fails n f i l (sym e ∙ h)
 
-pub turn-passes : (f : ℕ → Bool) (i : ℕ) {r : Bool} → every i f ≡ true → r ≡ f i → not r ≡ false → every (i + 1) f ≡ true
-turn-passes f i {r} t e h = every_more f i t (sym e ∙ not-false r h)
+pub turn-passes : (f : ℕ → Bool) (i : ℕ) {r : Bool} → every i f ≡ true → r ≡ f i → r ≡ true → every (i + 1) f ≡ true
+turn-passes f i t e h = every_more f i t (sym e ∙ h)
 
 -- A loop that goes on where a number fails, and keeps what it found so far: before the first turn it is true.
 pub joined-more : (f : ℕ → Bool) (i : ℕ) {b r : Bool} → b ≡ every i f → r ≡ f i → (b && r) ≡ every (i + 1) f

@@ -1,11 +1,11 @@
 -- A list of items with its witnesses that passes check 2: the sizes and the lengths.
 use mathlib.Core.Path.{◌≡◌, refl, sym, ap₂, ◌∙◌}
-use mathlib.Core.Bool.{Bool, true, false, not, ◌&&◌}
+use mathlib.Core.Bool.{Bool, true, false, ◌&&◌}
 use mathlib.Core.List.{List, [], ◌∷◌}
 use Prim.Native.Nat.{ℕ, ◌*◌, ◌≤◌}
 use native.Mathlib.Nat.{mul-le-mul}
 use native.Mathlib.Omega.{arith}
-use borrow.Author.Tests.{leb-true, eqb-true, not-true, not-false}
+use borrow.Author.Tests.{leb-true, eqb-true}
 use lib.Dec.{leb}
 use lib.ListN.{length}
 use Rattle.numbers.proofs.Tests.{and_left, and_right, each-true}
@@ -70,16 +70,16 @@ wits-few k l hk hl = mul-le-mul {n₁ = l} {m₁ = 4 * k} {n₂ = 8} {m₂ = 256
 -- ---- check 2 in two steps: sizes s and counts i first, then the lengths of points, circuit, items and witnesses
 
 module _ {s i s' i' : Bool} (es : s' ≡ s) (ei : i' ≡ i) where
-  first-fails : not (s' && i') ≡ true → (s && i) ≡ false
-  first-fails h = sym (ap₂ ◌&&◌ es ei) ∙ not-true (s' && i') h
+  first-fails : (s' && i') ≡ false → (s && i) ≡ false
+  first-fails h = sym (ap₂ ◌&&◌ es ei) ∙ h
 
-  pub first_passes : not (s' && i') ≡ false → (s && i) ≡ true
-  first_passes h = sym (ap₂ ◌&&◌ es ei) ∙ not-false (s' && i') h
+  pub first_passes : (s' && i') ≡ true → (s && i) ≡ true
+  first_passes h = sym (ap₂ ◌&&◌ es ei) ∙ h
 
-  pub list-fails : (p c x y : Bool) → not (s' && i') ≡ true → false ≡ (s && i && p && c && x && y)
+  pub list-fails : (p c x y : Bool) → (s' && i') ≡ false → false ≡ (s && i && p && c && x && y)
   list-fails p c x y h = rw (first-fails h)
 
-  pub list-passes : {p p' c c' r : Bool} (x y : Bool) → not (s' && i') ≡ false → p' ≡ p → c' ≡ c → r ≡ (x && y) → (p' && c' && r) ≡ (s && i && p && c && x && y)
+  pub list-passes : {p p' c c' r : Bool} (x y : Bool) → (s' && i') ≡ true → p' ≡ p → c' ≡ c → r ≡ (x && y) → (p' && c' && r) ≡ (s && i && p && c && x && y)
   list-passes {p} {p'} {c} {c'} {r} x y h ep ec er = rw (first_passes h) (ap₂ ◌&&◌ (ap₂ ◌&&◌ ep ec) er ∙ regrouped (p && c))
     where
       regrouped : (t : Bool) → (t && (x && y)) ≡ (t && x && y)

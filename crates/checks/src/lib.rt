@@ -1,4 +1,6 @@
 // The checks that the calls share, and what they need of a witness: its codeword and its root.
+#![tactic(auto)]
+
 pub mod claims;
 pub mod elements;
 pub mod item;

@@ -1,4 +1,6 @@
 // The digest that names a circuit: SHA-256 of its sizes and its three lists, fed into a running hash as they lie.
+#![tactic(auto)]
+
 ghost use Rattle.std.specs.Prelude.{◌≡◌, ◌++◌, ◌≤◌, ◌<◌, length};
 ghost use Rattle.hash.specs.Sha256.{digest};
 ghost use Rattle.running.specs.Fed.{Fed, Feeds};

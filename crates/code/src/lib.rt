@@ -1,4 +1,6 @@
 // The Reed-Solomon code over the field of p elements.
+#![tactic(auto)]
+
 ghost use Rattle.std.specs.Prelude.{◌≡◌, true, map, ◌<◌, length};
 ghost use Rattle.field.specs.BabyBear.{R, val, ofℕ};
 ghost use Rattle.code.specs.Codeword.{value_at, codeword};

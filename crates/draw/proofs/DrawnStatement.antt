@@ -11,7 +11,7 @@ use Rattle.hash.proofs.DigestLaws.{digest-length}
 use Rattle.tree.specs.Layout.{part}
 use Rattle.theory.specs.Combination.{quotient_size}
 use Rattle.theory.specs.Statements.{Honest, PermittedChallenge, PermittedPositions}
-use Rattle.theory.specs.Fp.{fp, element_bytes, item_front, item_size, list_quotient, quotient, fold}
+use Rattle.theory.specs.Fp.{fp, element_bytes, item_front, item_size, list_quotient, fold}
 use Rattle.theory.proofs.CheckLaws.{passed-answer}
 use Rattle.theory.proofs.Passed.{ListFits}
 use Rattle.theory.proofs.Parts.{length_part}

@@ -124,7 +124,7 @@ fn write(
     ensures challenge_after { challenge.new ≡ bytes4 (challenge_of l (seed_of m n k l items.now quotient.now)) }
 {
     let drawn = seed_of(m, n, k, l, items, quotient);
-    bytes::copy(&drawn, seed);
+    seed.copy_from_slice(&drawn);
     numbers::put(challenge, 0, challenge_of(l, drawn));
 }
 

@@ -44,7 +44,7 @@ fn write_in(k: usize, points: &[u8], w: &[u8], values: &mut [u32], code: &mut [u
     checks::witness::codeword(k, points, w, values);
     numbers::store(values, code);
     let digest = tree::root(values, code::depth_of(k));
-    bytes::copy(&digest, root);
+    root.copy_from_slice(&digest);
 }
 
 // Writes the codeword and the root.

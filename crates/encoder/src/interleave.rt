@@ -24,7 +24,7 @@ fn copy_part(from: &[u8], start: usize, size: usize, to: &mut [u8], at: usize)
     requires { (start + size ≤ length from.now) × (at + size ≤ length to.old) }
     ensures { to.new ≡ replaced to.old at size (part from.now start size) }
 {
-    bytes::copy(&from[start..start + size], &mut to[at..at + size]);
+    to[at..at + size].copy_from_slice(&from[start..start + size]);
 }
 
 // Copies the openings of position q, one from each of the parts of width bytes.

@@ -1,4 +1,6 @@
 // The prime field of p = 15 * 2^27 + 1 elements. An element is a number below p.
+#![tactic(auto)]
+
 ghost use Rattle.std.specs.Prelude.{◌≡◌, ◌*◌, ◌<◌};
 ghost use Rattle.algebra.specs.Polynomial.{pow};
 ghost use Rattle.field.specs.BabyBear.{p, R, val, ofℕ, inv, ◌⊕◌, ⊝◌, ◌⊖◌, ◌⊗◌};

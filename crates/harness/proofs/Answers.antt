@@ -1,18 +1,17 @@
 -- A test that passes or fails, as the answer tells it.
 use mathlib.Core.Path.{◌≡◌, refl, sym, ap, ◌∙◌}
-use mathlib.Core.Bool.{Bool, true, false, not, ◌&&◌, false≢true}
-use borrow.Author.Tests.{not-true, not-false}
+use mathlib.Core.Bool.{Bool, true, false, ◌&&◌, false≢true}
 use Rattle.harness.specs.Answers.{permitted_answer}
 
 -- The test's result t is what the definition s says.
 module _ (s : Bool) {t : Bool} (e : t ≡ s) where
-  pub passes : not t ≡ false → s ≡ true
-  passes h = sym e ∙ not-false t h
+  pub passes : t ≡ true → s ≡ true
+  passes h = sym e ∙ h
 
-  pub refused : not t ≡ true → 1 ≡ permitted_answer s
-  refused h = ap permitted_answer {y = s} (sym (not-true t h) ∙ e)
+  pub refused : t ≡ false → 1 ≡ permitted_answer s
+  refused h = ap permitted_answer {y = s} (sym h ∙ e)
 
-  pub accepted : not t ≡ false → 0 ≡ permitted_answer s
+  pub accepted : t ≡ true → 0 ≡ permitted_answer s
   accepted h = ap permitted_answer {y = s} (sym (passes h))
 
 pub both : (a b : Bool) → a && b ≡ true → (a ≡ true) × (b ≡ true)

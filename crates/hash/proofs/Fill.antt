@@ -1,6 +1,6 @@
 -- Arrays that a loop fills from the front with f 0, f 1, ..
 -- Assumes nothing.
-use Rattle.std.proofs.Common.{◌≡◌, ℕ, zero, suc, ◌+◌, ◌-◌, ◌<◌, List, [], ◌∷◌, ◌++◌, length, get_or, take, set, sym, refl, ap, ◌∙◌, le_of_eq, not-suc-le-zero, add-one, arith, length-append, take_all, take-suc-set}
+use Rattle.std.proofs.Common.{◌≡◌, ℕ, zero, suc, ◌+◌, ◌<◌, List, [], ◌∷◌, ◌++◌, length, get_or, take, set, sym, refl, ap, ◌∙◌, le_of_eq, not-suc-le-zero, add-one, arith, length-append, take_all, take-suc-set}
 use native.Mathlib.Decide.{dec_lt}
 use lib.ListN.{get_or-append}
 use lib.Seq.{get_or_at}

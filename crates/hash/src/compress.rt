@@ -125,7 +125,7 @@ pub fn compress(h: [u32; 8], m: [u32; 16]) -> [u32; 8]
 }
 
 // A hash value, and how many blocks were processed for it.
-#[derive(Drop)]
+#[derive(Clone, Copy)]
 pub struct State {
     pub value: [u32; 8],
     pub blocks: u64,

@@ -1,4 +1,6 @@
 // SHA-256 (FIPS 180-4), for a message of any length, and for the leaf and the inner node of a hash tree (RFC 6962, section 2.1).
+#![tactic(auto)]
+
 ghost use Rattle.std.specs.Prelude.{◌≡◌, ◌+◌, ◌^◌, ◌<◌, ◌≤◌, ◌∷◌, ◌++◌, length, take};
 ghost use Rattle.hash.specs.Sha256.{padded_in, block_count, digest};
 
@@ -14,7 +16,7 @@ pub const H0: [u32; 8] = [
 ];
 
 // The digest of a message, and how many blocks were processed for it.
-#[derive(Drop)]
+#[derive(Clone, Copy)]
 pub struct Hashed {
     pub digest: [u8; 32],
     pub blocks: u64,

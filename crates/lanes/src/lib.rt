@@ -1,5 +1,7 @@
 // SHA-256 (FIPS 180-4) of four messages side by side. A word's four lanes lie next to each other in one array, and the compiler makes vector
 // instructions of the loops over lanes.
+#![tactic(auto)]
+
 ghost use Rattle.std.specs.Prelude.{◌≡◌, [], ℕ, ◌*◌, ◌<◌, ◌≤◌, length, drop, get_or};
 ghost use Rattle.hash.specs.Sha256.{H₀, words, scheduled, rounds, compress, hash, bytes};
 ghost use Rattle.lanes.specs.Lanes.{lane, set_lane};

@@ -5,7 +5,7 @@ ghost use Rattle.lines.specs.Lines.{keyword_of};
 ghost use Rattle.lines.specs.Cursor.{field_at, field_end};
 
 // None is a field that is no keyword, or that no line was read yet.
-#[derive(Drop)]
+#[derive(Clone, Copy)]
 pub enum Keyword {
     Size,
     EntryA,

@@ -1,4 +1,6 @@
 // Lines of a sheet, read forwards from an index: keywords, numbers and roots.
+#![tactic(auto)]
+
 pub mod ends;
 pub mod keyword;
 pub mod number;

@@ -5,7 +5,7 @@ ghost use Rattle.lines.specs.Cursor.{number_at, number_before_tab};
 use crate::ends::field_over;
 
 // The number, and where its field ends.
-#[derive(Drop)]
+#[derive(Clone, Copy)]
 pub enum Number {
     Value(u32, usize),
     Bad,

@@ -6,7 +6,7 @@ ghost use Rattle.lines.specs.Cursor.{zeros, root_at};
 use crate::ends::field_over;
 
 // Whether the field is a root, and its 32 bytes; zeros where it is none.
-#[derive(Drop)]
+#[derive(Clone, Copy)]
 pub struct Root {
     pub valid: bool,
     pub bytes: [u8; 32],

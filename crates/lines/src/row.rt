@@ -8,7 +8,7 @@ use crate::number::Number;
 use crate::{number, root};
 
 // How many numbers the buffer has then, and where the next line starts.
-#[derive(Drop)]
+#[derive(Clone, Copy)]
 pub enum Row {
     Read(usize, usize),
     Bad,
@@ -32,7 +32,7 @@ fn append_root(buffer: &mut [u8], count: usize, root: [u8; 32])
     let start = 4 * count;
     let end = start + 32;
     if end <= buffer.len() {
-        bytes::copy(&root, &mut buffer[start..end]);
+        buffer[start..end].copy_from_slice(&root);
     }
 }
 

@@ -1,11 +1,11 @@
 -- Byte strings that are put into a buffer one right behind the other.
 use mathlib.Core.Path.{◌≡◌, ap, ap₂, ◌∙◌}
-use mathlib.Core.List.{List, [], ◌∷◌, ◌++◌, append_assoc, append-nil}
+use mathlib.Core.List.{List, [], ◌∷◌, ◌++◌, append_assoc}
 use Prim.Native.Nat.{ℕ, suc, ◌+◌, ◌-◌, ◌≤◌, ◌<◌}
 use native.Mathlib.Nat.{zero-add}
 use native.Mathlib.Omega.{arith}
-use lib.ListN.{length, take, drop, set, length-append, length-take, drop_of_length-le}
-use lib.Seq.{drop_at, drop-drop, take-length, length-take-le, take-set-le, set_split}
+use lib.ListN.{length, take, drop, set, length-append}
+use lib.Seq.{drop_at, drop-drop, length-take-le, take-set-le, set_split}
 use Rattle.lines.proofs.AppendLaws.{placed-length, placed-more}
 use Rattle.scan.specs.Sheet.{filled}
 use Rattle.listing.specs.Placing.{placed}
@@ -26,17 +26,10 @@ placed-last at xs b s h = ap₂ (λ (front behind : List ℕ). front ++ (xs ++ b
     joined = ap (λ (n : ℕ). take at s ++ (xs ++ (b ∷ drop n s))) total ∙ simp append_assoc
 
 -- Bytes copied into a part of their length.
-pub placed-copied : (at : ℕ) (word s part : List ℕ) → at + length word ≤ length s
-    → part ≡ take (length word) word ++ drop (length word) (take (at + length word - at) (drop at s))
+pub placed-copied : (at : ℕ) (word s part : List ℕ) → part ≡ word
     → take at s ++ (part ++ drop (at + length word - at) (drop at s)) ≡ placed at word s
-placed-copied at word s part h e = ap₂ (λ (xs rest : List ℕ). take at s ++ (xs ++ rest)) (e ∙ all) rest
+placed-copied at word s part e = ap₂ (λ (xs rest : List ℕ). take at s ++ (xs ++ rest)) e rest
   where
-    nothing : drop (length word) (take (at + length word - at) (drop at s)) ≡ []
-    nothing = drop_of_length-le (take (at + length word - at) (drop at s)) {i = length word} (omega (arith, length-take (at + length word - at) (drop at s)))
-
-    all : take (length word) word ++ drop (length word) (take (at + length word - at) (drop at s)) ≡ word
-    all = ap₂ ◌++◌ (take-length word) nothing ∙ append-nil word
-
     width : at + (at + length word - at) ≡ at + length word
     width = omega arith
 

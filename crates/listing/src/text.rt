@@ -10,7 +10,7 @@ pub fn put(out: &mut [u8], at: usize, word: &[u8]) -> usize
     ensures out { out.new ≡ placed at word.now out.old }
 {
     let end = at + word.len();
-    bytes::copy(word, &mut out[at..end]);
+    out[at..end].copy_from_slice(word);
     end
 }
 

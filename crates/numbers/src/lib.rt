@@ -1,4 +1,6 @@
 // Numbers in byte buffers: a number takes four bytes, lowest first.
+#![tactic(auto)]
+
 ghost use Rattle.std.specs.Prelude.{◌≡◌, ◌++◌, ◌+◌, ◌*◌, ◌≤◌, ◌<◌, length, get_or, take, drop, eqb};
 ghost use Rattle.numbers.specs.Equality.{among};
 ghost use Rattle.numbers.specs.Numbers.{numbers, bytes4, bytes, all_below, all_different};

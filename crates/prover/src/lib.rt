@@ -1,4 +1,6 @@
 // The quotient of a list of items, and folding the list.
+#![tactic(auto)]
+
 pub mod folding;
 mod list;
 mod new;

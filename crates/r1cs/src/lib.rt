@@ -1,4 +1,6 @@
 // The value of a rank-1 constraint system at r and z, from a circuit that lies in byte buffers.
+#![tactic(auto)]
+
 ghost use Rattle.std.specs.Prelude.{◌≡◌, map, ◌^◌, ◌≤◌, ◌<◌, length};
 ghost use Rattle.field.specs.BabyBear.{p, R, val, ofℕ};
 ghost use Rattle.field.specs.Numbers.{Below};

@@ -18,7 +18,7 @@ use Rattle.lines.specs.declared.keyword.Keyword.TheVariants.{EntryA, EntryB, Ent
 use Rattle.lines.specs.Text.{all_pass}
 use Rattle.lines.specs.Lines.{Line}
 use Rattle.scan.specs.Sheet.{sheet_lines, ordered, having, count_of, number_of, m, n, k, pairs, bytes_of, all_have, filled}
-use Rattle.validation.specs.SheetChecks.{counts_fit, buffers_fit, sheet_checks, result}
+use Rattle.validation.specs.SheetChecks.{counts_fit, buffers_fit, sheet_checks, result_of}
 use Rattle.sheet.specs.Reading.{ReadSheet, read_sheet}
 use Rattle.roundtrip.specs.Writing.{Pair, Document, Writable, write_sheet, entry_bytes, items_bytes, witness_bytes, document_checks, read_back}
 use Rattle.roundtrip.proofs.WrittenText.{text_of, ended-line, last_line}
@@ -111,7 +111,7 @@ module _ (d : Document) (a b c items wits : List ℕ) (passes : answer (document
   read-says : (ls : List Line) → Says d ls → (r : ℕ) → r ≡ 0
       → ◌≡◌ {A = ReadSheet}
       (record {
-        result = result r ls;
+        result = result_of r ls;
         a = written r (filled (bytes_of EntryA ls) a) a;
         b = written r (filled (bytes_of EntryB ls) b) b;
         c = written r (filled (bytes_of EntryC ls) c) c;

@@ -1,4 +1,6 @@
 // A running hash: SHA-256 (FIPS 180-4) of a message that is fed in field by field, and closed by a digest.
+#![tactic(auto)]
+
 ghost use Rattle.std.specs.Prelude.{◌≡◌, List, [], ◌∷◌, ℕ, ◌+◌, ◌^◌, ◌<◌, length};
 ghost use Rattle.numbers.specs.Numbers.{bytes4};
 ghost use Rattle.hash.specs.Sha256.{digest};
@@ -8,7 +10,7 @@ use hash::compress::State;
 use hash::{compress, message};
 
 // The hash value after the whole blocks fed in, the bytes since at the front of `rest`, and how many bytes were fed in.
-#[derive(Drop)]
+#[derive(Clone, Copy)]
 pub struct Running {
     pub value: [u32; 8],
     pub rest: [u8; 64],

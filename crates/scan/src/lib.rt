@@ -1,4 +1,6 @@
 // Check 1 over the whole sheet, in one pass: line by line, each number appended to its buffer as it is read.
+#![tactic(auto)]
+
 ghost use Rattle.std.specs.Prelude.{◌≡◌, true, false, ◌≤◌, ◌<◌, length};
 ghost use Rattle.lines.specs.declared.keyword.Keyword.TheVariants.{EntryA, EntryB, EntryC, Item, Wit};
 ghost use Rattle.lines.specs.Cursor.{fields_at, next_line};

@@ -4,7 +4,7 @@ ghost use Rattle.scan.specs.Scan.{start, stopped};
 
 use lines::keyword::Keyword;
 
-#[derive(Drop)]
+#[derive(Clone, Copy)]
 pub struct Sizes {
     pub m: u32,
     pub n: u32,
@@ -12,7 +12,7 @@ pub struct Sizes {
 }
 
 // How many entries each list has.
-#[derive(Drop)]
+#[derive(Clone, Copy)]
 pub struct Entries {
     pub a: usize,
     pub b: usize,
@@ -20,7 +20,7 @@ pub struct Entries {
 }
 
 // How many numbers the buffers of items and witnesses have (a root counts as eight), and how many pairs there are.
-#[derive(Drop)]
+#[derive(Clone, Copy)]
 pub struct Pairs {
     pub items: usize,
     pub wits: usize,
@@ -29,7 +29,7 @@ pub struct Pairs {
 
 // What was read up to index `at`. `last` is the last line's keyword; `fit` says whether each pair has as many numbers as the sizes give; `end` is the
 // number on the line `end`. `fit` is no field of `Pairs`: a record that is copied with its padding takes longer.
-#[derive(Drop)]
+#[derive(Clone, Copy)]
 pub struct State {
     pub at: usize,
     pub last: Keyword,

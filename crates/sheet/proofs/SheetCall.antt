@@ -16,7 +16,7 @@ use Rattle.checks.proofs.Calls as answers
 use Rattle.lines.specs.declared.keyword.Keyword.TheVariants.{EntryA, EntryB, EntryC, Item, Wit}
 use Rattle.validation.specs.declared.reading.Reading.{Reading}
 use Rattle.scan.specs.Sheet.{sheet_lines, ordered, bytes_of, pairs_fit}
-use Rattle.validation.specs.SheetChecks.{counts_fit, state_fits, buffers_fit, sheet_checks, result}
+use Rattle.validation.specs.SheetChecks.{counts_fit, state_fits, buffers_fit, sheet_checks, result_of}
 use Rattle.sheet.specs.Reading.{read_sheet}
 use Rattle.scan.proofs.StateAfter.{state_after}
 use Rattle.scan.proofs.Scanned.{Filled}
@@ -26,13 +26,13 @@ use Rattle.validation.proofs.SheetCheckLaws.{count-bounds, state-pairs-fit, buff
 
 -- r is the result of the checks, with what check 2 says of the call's buffers.
 pub record Called (s a b c items wits : List ℕ) (r : Reading) : Type 0 where
-  pub answered : r ≡ result (answer (sheet_checks s (buffers_fit a b c items wits))) (sheet_lines s)
+  pub answered : r ≡ result_of (answer (sheet_checks s (buffers_fit a b c items wits))) (sheet_lines s)
 
-pub calls : (s a b c items wits : List ℕ) {lengths : Bool} {r : Reading} → lengths ≡ buffers_fit a b c items wits → r ≡ result (answer (sheet_checks s lengths)) (sheet_lines s) → Called s a b c items wits r
-calls s a b c items wits fit e = record { answered = e ∙ ap (λ (l : Bool). result (answer (sheet_checks s l)) (sheet_lines s)) fit }
+pub calls : (s a b c items wits : List ℕ) {lengths : Bool} {r : Reading} → lengths ≡ buffers_fit a b c items wits → r ≡ result_of (answer (sheet_checks s lengths)) (sheet_lines s) → Called s a b c items wits r
+calls s a b c items wits fit e = record { answered = e ∙ ap (λ (l : Bool). result_of (answer (sheet_checks s l)) (sheet_lines s)) fit }
 
 module _ {s a b c items wits : List ℕ} {r : Reading} (called : Called s a b c items wits r) where
-  abbrev answered : r ≡ result (answer (sheet_checks s (buffers_fit a b c items wits))) (sheet_lines s)
+  abbrev answered : r ≡ result_of (answer (sheet_checks s (buffers_fit a b c items wits))) (sheet_lines s)
   answered = called.answered
 
   pub the-answer : r.answer ≡ answer (sheet_checks s (buffers_fit a b c items wits))
@@ -53,8 +53,8 @@ module _ {s a b c items wits : List ℕ} {r : Reading} (called : Called s a b c 
     pub all-passed : All Passed (sheet_checks s (buffers_fit a b c items wits))
     all-passed = answer-passed (sheet_checks s (buffers_fit a b c items wits)) (omega arith) zero-answer
 
-    pub read-lines : r ≡ result 0 (sheet_lines s)
-    read-lines = answered ∙ ap (λ (t : ℕ). result t (sheet_lines s)) zero-answer
+    pub read-lines : r ≡ result_of 0 (sheet_lines s)
+    read-lines = answered ∙ ap (λ (t : ℕ). result_of t (sheet_lines s)) zero-answer
 
     pub short : length s ≤ 60000
     short = leb-true (length s) 60000 (and_left (leb (length s) 60000) (ordered (sheet_lines s)) all-passed.0)

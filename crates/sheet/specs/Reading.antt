@@ -4,7 +4,7 @@ use Rattle.theory.specs.Checks.{answer, written}
 use Rattle.lines.specs.declared.keyword.Keyword.TheVariants.{EntryA, EntryB, EntryC, Item, Wit}
 use Rattle.scan.specs.Sheet.{sheet_lines, bytes_of, filled}
 use Rattle.validation.specs.declared.reading.Reading.{Reading}
-use Rattle.validation.specs.SheetChecks.{buffers_fit, sheet_checks, result}
+use Rattle.validation.specs.SheetChecks.{buffers_fit, sheet_checks, result_of}
 
 -- The sizes and counts as a list of numbers.
 abbrev pub sizes_of : Reading → List ℕ
@@ -23,7 +23,7 @@ read_sheet s a b c items wits =
     let r = answer (sheet_checks s (buffers_fit a b c items wits)) in
     let ls = sheet_lines s in
     record {
-      result = result r ls;
+      result = result_of r ls;
       a = written r (filled (bytes_of EntryA ls) a) a;
       b = written r (filled (bytes_of EntryB ls) b) b;
       c = written r (filled (bytes_of EntryC ls) c) c;

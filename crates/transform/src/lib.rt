@@ -1,5 +1,7 @@
 // The codeword at the built-in points, by the halving transform: the value at x of a polynomial is that of its even part at x²
 // plus x times that of its odd part, and the squares of the points are the points of half the size.
+#![tactic(auto)]
+
 ghost use Rattle.std.specs.Prelude.{◌≡◌, true, map, ℕ, ◌+◌, ◌*◌, ◌-◌, ◌<◌, length, get_or, replicate};
 ghost use Rattle.field.specs.BabyBear.{R, val, ofℕ};
 ghost use Rattle.field.specs.Numbers.{Below};

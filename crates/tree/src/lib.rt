@@ -1,4 +1,6 @@
 // The Merkle hash tree of RFC 6962, section 2.1, over lists of numbers: roots and openings.
+#![tactic(auto)]
+
 ghost use Rattle.std.specs.Prelude.{◌≡◌, true, ◌++◌, ◌+◌, ◌*◌, ◌%◌, ◌^◌, ◌≤◌, ◌<◌, length, take, drop};
 ghost use Rattle.std.proofs.lemmas.List.Edits.{sets};
 ghost use Rattle.hash.specs.Sha256.{block_count, digest};
@@ -84,7 +86,7 @@ pub fn digest_at(s: &[u8], at: usize) -> [u8; 32]
     ensures { result ≡ part s.now at 32 }
 {
     let mut d = [0u8; 32];
-    bytes::copy(&s[at..at + 32], &mut d);
+    d.copy_from_slice(&s[at..at + 32]);
     d
 }
 
@@ -136,7 +138,7 @@ pub fn write_digest(out: &mut [u8], at: usize, d: [u8; 32])
     requires { at + 32 ≤ length out.old }
     ensures { out.new ≡ take at out.old ++ d ++ drop (at + 32) out.old }
 {
-    bytes::copy(&d, &mut out[at..at + 32]);
+    out[at..at + 32].copy_from_slice(&d);
 }
 
 // The place of the other child of a place's parent.

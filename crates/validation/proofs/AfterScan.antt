@@ -12,7 +12,7 @@ use Rattle.lines.specs.declared.keyword.Keyword.TheVariants.{EntryA, EntryB, Ent
 use Rattle.validation.specs.declared.reading.Reading.{Reading}
 use Rattle.scan.specs.declared.state.State.{State}
 use Rattle.scan.specs.Sheet.{sheet_lines, ordered, m, n, k, pairs, bytes_of, pairs_fit}
-use Rattle.validation.specs.SheetChecks.{state_fits, result}
+use Rattle.validation.specs.SheetChecks.{state_fits, result_of}
 use Rattle.validation.specs.CheckParts.{circuit_checks}
 use Rattle.scan.proofs.StateAfter.{state_after}
 use Rattle.scan.proofs.Scanned.{Filled, SameEntries}
@@ -76,11 +76,11 @@ module _ {s : List ℕ} {st : State} (scanned : AfterScan s st) where
 
   -- What an acceptance gives.
   pub accepted : {r : Reading} {y : ℕ} → r ≡ record { answer = 0; m = st.sizes.m; n = st.sizes.n; k = st.sizes.k; a = st.entries.a; b = st.entries.b; c = st.entries.c; pairs = st.pairs.count } → 0 ≡ y
-      → r ≡ result y (sheet_lines s)
+      → r ≡ result_of y (sheet_lines s)
   accepted e z =
       e
       ∙ (ap (λ (t : State). record { answer = 0; m = t.sizes.m; n = t.sizes.n; k = t.sizes.k; a = t.entries.a; b = t.entries.b; c = t.entries.c; pairs = t.pairs.count }) state
-      ∙ ap (λ (t : ℕ). result t (sheet_lines s)) z)
+      ∙ ap (λ (t : ℕ). result_of t (sheet_lines s)) z)
 
 -- The entries of such a sheet were read, and st is the state behind them.
 module _ {s : List ℕ} (whole : AfterScan s (state_after (sheet_lines s) (length s))) (st : State) (same : SameEntries st (state_after (sheet_lines s) (length s))) where

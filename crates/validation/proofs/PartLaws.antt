@@ -2,7 +2,7 @@
 -- waits, a refusal of the second is the answer, and else the first is.
 use mathlib.Core.Path.{◌≡◌, refl, sym, ap, subst, ◌∙◌}
 use mathlib.Core.Logic.{◌≢◌, ◌⊎◌, inl, inr}
-use mathlib.Core.Bool.{Bool, true, false, not, ◌&&◌, ◌||◌, false≢true}
+use mathlib.Core.Bool.{Bool, true, false, ◌&&◌, ◌||◌, false≢true}
 use mathlib.Core.List.{List, []}
 use Prim.Native.Nat.{ℕ}
 use native.Mathlib.Omega.{arith}
@@ -17,7 +17,7 @@ use Rattle.lines.specs.declared.keyword.Keyword.TheVariants.{EntryA, EntryB, Ent
 use Rattle.lines.specs.Lines.{Line}
 use Rattle.scan.specs.Sheet.{sheet_lines, m, n, k, pairs, bytes_of}
 use Rattle.validation.specs.declared.reading.Reading.{Reading}
-use Rattle.validation.specs.SheetChecks.{keeps_rules, counts_fit, sheet_checks, result}
+use Rattle.validation.specs.SheetChecks.{keeps_rules, counts_fit, sheet_checks, result_of}
 use Rattle.validation.specs.CheckParts.{pair_checks, circuit_checks}
 use Rattle.validation.proofs.SheetCheckLaws.{result-answer}
 
@@ -31,18 +31,17 @@ of_all values items wits order leading = answer_if (values && items && wits) 3 (
 abbrev pub Waits : ℕ → Type 0
 Waits r = (r ≡ 0) ⊎ (r ≡ 13)
 
--- The code tests the opposite.
-pub waiting : (r : ℕ) → not (eqb r 0 || eqb r 13) ≡ false → Waits r
+pub waiting : (r : ℕ) → (eqb r 0 || eqb r 13) ≡ true → Waits r
 waiting r = go (eqb r 0) (eqb r 13) (eqb-true r 0) (eqb-true r 13)
   where
-    go : (a b : Bool) → (a ≡ true → r ≡ 0) → (b ≡ true → r ≡ 13) → not (a || b) ≡ false → Waits r
+    go : (a b : Bool) → (a ≡ true → r ≡ 0) → (b ≡ true → r ≡ 13) → (a || b) ≡ true → Waits r
     go true b x y h = inl (x refl)
     go false true x y h = inr (y refl)
-    go false false x y h = absurd (false≢true (sym h))
+    go false false x y h = absurd (false≢true h)
 
-pub not-waiting : (r : ℕ) → not (eqb r 0 || eqb r 13) ≡ true → Waits r → ⊥
-not-waiting r h (inl e) = absurd (false≢true (sym (ap (λ (t : Bool). not (t || eqb r 13)) (eq-eqb r 0 e)) ∙ h))
-not-waiting r h (inr e) = absurd (false≢true (sym (ap not (or-second (eqb r 0) (eq-eqb r 13 e))) ∙ h))
+pub not-waiting : (r : ℕ) → (eqb r 0 || eqb r 13) ≡ false → Waits r → ⊥
+not-waiting r h (inl e) = absurd (false≢true (sym h ∙ ap (λ (t : Bool). t || eqb r 13) (eq-eqb r 0 e)))
+not-waiting r h (inr e) = absurd (false≢true (sym h ∙ or-second (eqb r 0) (eq-eqb r 13 e)))
   where
     or-second : (a : Bool) {b : Bool} → b ≡ true → (a || b) ≡ true
     or-second true q = refl
@@ -155,15 +154,15 @@ module _ (s : List ℕ) (lengths : Bool) where
     first-tests = (first_two.0, and_left (counts_fit ls) lengths first_two.1)
 
   -- A result of the first part: that of all checks where it refuses at once, and where the second part passes.
-  module _ {r : Reading} (tested : r ≡ result (answer (pair_checks s lengths)) (sheet_lines s)) where
+  module _ {r : Reading} (tested : r ≡ result_of (answer (pair_checks s lengths)) (sheet_lines s)) where
     the-answer : r.answer ≡ answer (pair_checks s lengths)
     the-answer = ap (λ (t : Reading). t.answer) tested ∙ result-answer (answer (pair_checks s lengths)) ls
 
     pub pairs-wait : Waits r.answer → Waits (answer (pair_checks s lengths))
     pairs-wait = subst Waits the-answer
 
-    pub refused-first : (Waits r.answer → ⊥) → r ≡ result (answer (sheet_checks s lengths)) (sheet_lines s)
-    refused-first h = tested ∙ ap (λ (t : ℕ). result t ls) (sym (pairs-refused (λ w. h (subst Waits (sym the-answer) w))))
+    pub refused-first : (Waits r.answer → ⊥) → r ≡ result_of (answer (sheet_checks s lengths)) (sheet_lines s)
+    refused-first h = tested ∙ ap (λ (t : ℕ). result_of t ls) (sym (pairs-refused (λ w. h (subst Waits (sym the-answer) w))))
 
-    pub passed-second : Waits r.answer → answer (circuit_checks (sheet_lines s)) ≡ 0 → r ≡ result (answer (sheet_checks s lengths)) (sheet_lines s)
-    passed-second w z = tested ∙ ap (λ (t : ℕ). result t ls) (sym (second-passes (pairs-wait w) z))
+    pub passed-second : Waits r.answer → answer (circuit_checks (sheet_lines s)) ≡ 0 → r ≡ result_of (answer (sheet_checks s lengths)) (sheet_lines s)
+    passed-second w z = tested ∙ ap (λ (t : ℕ). result_of t ls) (sym (second-passes (pairs-wait w) z))

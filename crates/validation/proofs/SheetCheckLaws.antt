@@ -20,7 +20,7 @@ use Rattle.lines.specs.Lines.{Line}
 use Rattle.validation.specs.declared.reading.Reading.{Reading}
 use Rattle.scan.specs.declared.state.State.{State}
 use Rattle.scan.specs.Sheet.{sheet_lines, ordered}
-use Rattle.validation.specs.SheetChecks.{keeps_rules, state_fits, buffers_fit, result}
+use Rattle.validation.specs.SheetChecks.{keeps_rules, state_fits, buffers_fit, result_of}
 use Rattle.validation.specs.CheckParts.{pair_checks}
 use Rattle.validation.specs.Bounds.{CountBounds, EntryLengths, PairLengths}
 
@@ -91,18 +91,18 @@ module _ {m n k a b c pairs : ℕ} (bounds : CountBounds m n k a b c pairs) wher
 -- ---- refusals
 
 -- A refusal has zeros, and says nothing of the lines.
-pub refusal-zeros : (x : ℕ) → 0 < x → record { answer = x; m = 0; n = 0; k = 0; a = 0; b = 0; c = 0; pairs = 0 } ≡ result x []
+pub refusal-zeros : (x : ℕ) → 0 < x → record { answer = x; m = 0; n = 0; k = 0; a = 0; b = 0; c = 0; pairs = 0 } ≡ result_of x []
 refusal-zeros zero h = absurd (omega arith)
 refusal-zeros (suc x) h = refl
 
-refusal-lines : (x : ℕ) (ls : List Line) → 0 < x → result x [] ≡ result x ls
+refusal-lines : (x : ℕ) (ls : List Line) → 0 < x → result_of x [] ≡ result_of x ls
 refusal-lines zero ls h = absurd (omega arith)
 refusal-lines (suc x) ls h = refl
 
-pub result-answer : (x : ℕ) (ls : List Line) → (result x ls).answer ≡ x
+pub result-answer : (x : ℕ) (ls : List Line) → (result_of x ls).answer ≡ x
 result-answer zero ls = refl
 result-answer (suc x) ls = refl
 
 -- A refusal with the answer x, which is the answer y that is defined.
-pub refused : {r : Reading} {x y : ℕ} (ls : List Line) → r ≡ result x [] → 0 < x → x ≡ y → r ≡ result y ls
-refused {r} {x} {y} ls e h i = e ∙ (refusal-lines x ls h ∙ ap (λ (t : ℕ). result t ls) i)
+pub refused : {r : Reading} {x y : ℕ} (ls : List Line) → r ≡ result_of x [] → 0 < x → x ≡ y → r ≡ result_of y ls
+refused {r} {x} {y} ls e h i = e ∙ (refusal-lines x ls h ∙ ap (λ (t : ℕ). result_of t ls) i)

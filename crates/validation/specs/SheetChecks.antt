@@ -45,6 +45,6 @@ sheet_checks s lengths =
     ∷ list_checks (m ls) (n ls) (k ls) (pairs ls) [] (bytes_of EntryA ls) (bytes_of EntryB ls) (bytes_of EntryC ls) (bytes_of Item ls) (bytes_of Wit ls)
 
 -- The result: the answer, and the sizes and counts where it is 0.
-abbrev pub result : ℕ → List Line → Reading
-result zero ls = record { answer = 0; m = m ls; n = n ls; k = k ls; a = count_of EntryA ls; b = count_of EntryB ls; c = count_of EntryC ls; pairs = pairs ls }
-result (suc r) ls = record { answer = suc r; m = 0; n = 0; k = 0; a = 0; b = 0; c = 0; pairs = 0 }
+abbrev pub result_of : ℕ → List Line → Reading
+result_of zero ls = record { answer = 0; m = m ls; n = n ls; k = k ls; a = count_of EntryA ls; b = count_of EntryB ls; c = count_of EntryC ls; pairs = pairs ls }
+result_of (suc r) ls = record { answer = suc r; m = 0; n = 0; k = 0; a = 0; b = 0; c = 0; pairs = 0 }

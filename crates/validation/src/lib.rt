@@ -1,9 +1,11 @@
 // Checks 1 to 4 and 13 of a sheet, each over the whole sheet before the next. The sheet is read for its pairs, and then up to its first item for its
 // circuit: the arrays for both do not stand on the stack at the same time. So a 13 of the pairs waits for the circuit's 3 and 4.
+#![tactic(auto)]
+
 ghost use Rattle.std.specs.Prelude.{◌≡◌, true};
 ghost use Rattle.theory.specs.Checks.{answer};
 ghost use Rattle.scan.specs.Sheet.{sheet_lines};
-ghost use Rattle.validation.specs.SheetChecks.{keeps_rules, counts_fit, sheet_checks, result};
+ghost use Rattle.validation.specs.SheetChecks.{keeps_rules, counts_fit, sheet_checks, result_of};
 ghost use Rattle.validation.specs.CheckParts.{pair_checks, circuit_checks};
 ghost use Rattle.validation.specs.Bounds.{EntryLengths, PairLengths};
 
@@ -24,7 +26,7 @@ fn pairs_verdict_in(
     lengths: bool,
 ) -> Reading
     requires { PairLengths items.old wits.old }
-    ensures* { λ r. ⌜ r ≡ result (answer (pair_checks sheet.now lengths)) (sheet_lines sheet.now) ⌝ }
+    ensures { result ≡ result_of (answer (pair_checks sheet.now lengths)) (sheet_lines sheet.now) }
 {
     if sheet.len() > 60000 {
         return reading::refused(1);
@@ -46,7 +48,7 @@ fn pairs_verdict_in(
 
 // The same with arrays of its own.
 fn pairs_verdict(sheet: &[u8], lengths: bool) -> Reading
-    ensures* { λ r. ⌜ r ≡ result (answer (pair_checks sheet.now lengths)) (sheet_lines sheet.now) ⌝ }
+    ensures { result ≡ result_of (answer (pair_checks sheet.now lengths)) (sheet_lines sheet.now) }
 {
     let mut a: [u8; 0] = [];
     let mut b: [u8; 0] = [];
@@ -61,7 +63,7 @@ fn pairs_verdict(sheet: &[u8], lengths: bool) -> Reading
 // Checks 3 and 4 of the circuit, which is read into the buffers, after checks 1 and 2.
 fn circuit_verdict_in(sheet: &[u8], a: &mut [u8], b: &mut [u8], c: &mut [u8]) -> u32
     requires { (keeps_rules sheet.now ≡ true) × (counts_fit (sheet_lines sheet.now) ≡ true) × EntryLengths a.old b.old c.old }
-    ensures* { λ r. ⌜ r ≡ answer (circuit_checks (sheet_lines sheet.now)) ⌝ }
+    ensures { result ≡ answer (circuit_checks (sheet_lines sheet.now)) }
 {
     let st = scan::scan_entries(sheet, a, b, c);
     contents::circuit_answer(st, a, b, c)
@@ -70,7 +72,7 @@ fn circuit_verdict_in(sheet: &[u8], a: &mut [u8], b: &mut [u8], c: &mut [u8]) ->
 // The same with arrays of its own.
 fn circuit_verdict(sheet: &[u8]) -> u32
     requires { (keeps_rules sheet.now ≡ true) × (counts_fit (sheet_lines sheet.now) ≡ true) }
-    ensures* { λ r. ⌜ r ≡ answer (circuit_checks (sheet_lines sheet.now)) ⌝ }
+    ensures { result ≡ answer (circuit_checks (sheet_lines sheet.now)) }
 {
     let mut a = [0u8; 12288];
     let mut b = [0u8; 12288];
@@ -80,7 +82,7 @@ fn circuit_verdict(sheet: &[u8]) -> u32
 
 // The checks in their order. `lengths` is what check 2 says of the call's buffers.
 pub fn verdict(sheet: &[u8], lengths: bool) -> Reading
-    ensures* { λ r. ⌜ r ≡ result (answer (sheet_checks sheet.now lengths)) (sheet_lines sheet.now) ⌝ }
+    ensures { result ≡ result_of (answer (sheet_checks sheet.now lengths)) (sheet_lines sheet.now) }
 {
     let r = pairs_verdict(sheet, lengths);
     if !((r.answer == 0) | (r.answer == 13)) {

@@ -1,12 +1,12 @@
 // The result of reading a sheet.
 ghost use Rattle.std.specs.Prelude.{◌≡◌, [], ◌<◌};
-ghost use Rattle.validation.specs.SheetChecks.{result};
+ghost use Rattle.validation.specs.SheetChecks.{result_of};
 ghost use Rattle.validation.specs.Bounds.{CountBounds};
 
 use scan::state::State;
 
 // The answer, and where it is 0 the sizes, the entries of each list and the count of pairs; zeros where it is not.
-#[derive(Drop)]
+#[derive(Clone, Copy)]
 pub struct Reading {
     pub answer: u32,
     pub m: u32,
@@ -21,7 +21,7 @@ pub struct Reading {
 // The result at refusal.
 pub fn refused(answer: u32) -> Reading
     requires { 0 < answer }
-    ensures* { λ r. ⌜ r ≡ result answer [] ⌝ }
+    ensures { result ≡ result_of answer [] }
 {
     Reading {
         answer,
@@ -38,7 +38,7 @@ pub fn refused(answer: u32) -> Reading
 // The result at acceptance.
 pub fn accepted(st: State) -> Reading
     requires { CountBounds st.sizes.m st.sizes.n st.sizes.k st.entries.a st.entries.b st.entries.c st.pairs.count }
-    ensures* { λ r. ⌜ r ≡ record { answer = 0; m = st.sizes.m; n = st.sizes.n; k = st.sizes.k; a = st.entries.a; b = st.entries.b; c = st.entries.c; pairs = st.pairs.count } ⌝ }
+    ensures { result ≡ record { answer = 0; m = st.sizes.m; n = st.sizes.n; k = st.sizes.k; a = st.entries.a; b = st.entries.b; c = st.entries.c; pairs = st.pairs.count } }
 {
     Reading {
         answer: 0,

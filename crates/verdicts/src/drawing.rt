@@ -1,10 +1,9 @@
-// The three calls that draw by hash, for C.
+// The three calls that draw by hash.
 ghost use Rattle.std.specs.Prelude.{◌≡◌};
 ghost use Rattle.draw.specs.Draw.{draw_challenge, draw_positions, draw_r};
 
 // Writes the seed of items and quotient, and the challenge drawn from it. Checks 2, 3 and 13.
-#[unsafe(no_mangle)]
-pub extern "C" fn lomvuze_draw_challenge(
+pub fn lomvuze_draw_challenge(
     m: u32,
     n: u32,
     k: u32,
@@ -22,8 +21,7 @@ pub extern "C" fn lomvuze_draw_challenge(
 }
 
 // Writes t positions, drawn from seed, challenge and the root of the new item. Checks 2 and 5.
-#[unsafe(no_mangle)]
-pub extern "C" fn lomvuze_draw_positions(
+pub fn lomvuze_draw_positions(
     k: u32,
     l: u32,
     t: u32,
@@ -39,8 +37,7 @@ pub extern "C" fn lomvuze_draw_positions(
 }
 
 // Writes r for casting, drawn from root and x. Checks 2, 3 and 13.
-#[unsafe(no_mangle)]
-pub extern "C" fn lomvuze_draw_r(m: u32, n: u32, root: &[u8], x: &[u8], r: &mut [u8]) -> u32
+pub fn lomvuze_draw_r(m: u32, n: u32, root: &[u8], x: &[u8], r: &mut [u8]) -> u32
     ensures answer { result ≡ (draw_r m n root.now x.now r.old).answer }
     ensures r { r.new ≡ (draw_r m n root.now x.now r.old).r }
 {

@@ -1,5 +1,7 @@
-// The calls and the sheet reader for C. Each tests its own input and answers 0, or the number of the first check that fails; a refusal writes nothing.
+// The calls and the sheet reader, which verdicts_c exports to C. Each tests its own input and answers 0, or the number of the first check that fails; a refusal writes nothing.
 // Verifying answers with a count of blocks too.
+#![tactic(auto)]
+
 ghost use Rattle.std.specs.Prelude.{◌≡◌};
 ghost use Rattle.theory.specs.Checks.{written};
 ghost use Rattle.theory.specs.Results.{packed};
@@ -9,14 +11,7 @@ ghost use Rattle.sheet.specs.Reading.{read_sheet, sizes_of};
 pub mod drawing;
 
 // Writes the codeword of a witness and its root. Checks 2, 3 and 12.
-#[unsafe(no_mangle)]
-pub extern "C" fn lomvuze_encode(
-    k: u32,
-    points: &[u8],
-    w: &[u8],
-    code: &mut [u8],
-    root: &mut [u8],
-) -> u32
+pub fn lomvuze_encode(k: u32, points: &[u8], w: &[u8], code: &mut [u8], root: &mut [u8]) -> u32
     ensures answer { result ≡ (encode k points.now w.now code.old root.old).answer }
     ensures code { code.new ≡ (encode k points.now w.now code.old root.old).code }
     ensures root { root.new ≡ (encode k points.now w.now code.old root.old).root }
@@ -25,8 +20,7 @@ pub extern "C" fn lomvuze_encode(
 }
 
 // Writes the item of an instance: r as lent, e 0, the root of the witness. Checks 2, 3, 12, 4, 13 and 11.
-#[unsafe(no_mangle)]
-pub extern "C" fn lomvuze_cast(
+pub fn lomvuze_cast(
     m: u32,
     n: u32,
     k: u32,
@@ -46,8 +40,7 @@ pub extern "C" fn lomvuze_cast(
 }
 
 // Writes the quotient of a list of items with their witnesses. Checks 2, 3, 12, 4, 13, 10 and 11.
-#[unsafe(no_mangle)]
-pub extern "C" fn lomvuze_quotient(
+pub fn lomvuze_quotient(
     m: u32,
     n: u32,
     k: u32,
@@ -67,8 +60,7 @@ pub extern "C" fn lomvuze_quotient(
 }
 
 // Writes the quotient, the new item and the new witness at a challenge. Checks 2, 3, 12, 4, 13, 5, 10 and 11.
-#[unsafe(no_mangle)]
-pub extern "C" fn lomvuze_fold(
+pub fn lomvuze_fold(
     m: u32,
     n: u32,
     k: u32,
@@ -95,8 +87,7 @@ pub extern "C" fn lomvuze_fold(
 }
 
 // Writes the openings of a witness at a list of positions. Checks 2, 3, 12 and 6.
-#[unsafe(no_mangle)]
-pub extern "C" fn lomvuze_open(
+pub fn lomvuze_open(
     k: u32,
     t: u32,
     points: &[u8],
@@ -111,14 +102,7 @@ pub extern "C" fn lomvuze_open(
 }
 
 // Writes the openings of l + 1 witnesses, the new one's last, in the order in which lomvuze_verify reads them. Check 2.
-#[unsafe(no_mangle)]
-pub extern "C" fn lomvuze_interleave(
-    k: u32,
-    l: u32,
-    t: u32,
-    opened: &[u8],
-    openings: &mut [u8],
-) -> u32
+pub fn lomvuze_interleave(k: u32, l: u32, t: u32, opened: &[u8], openings: &mut [u8]) -> u32
     ensures answer { result ≡ (interleave k l t opened.now openings.old).answer }
     ensures openings { openings.new ≡ (interleave k l t opened.now openings.old).openings }
 {
@@ -126,8 +110,7 @@ pub extern "C" fn lomvuze_interleave(
 }
 
 // Verifies a fold, and returns 64 times the number of SHA-256 blocks that were processed, plus the verdict. Checks 2, 3, 13 and 5 to 9.
-#[unsafe(no_mangle)]
-pub extern "C" fn lomvuze_verify(
+pub fn lomvuze_verify(
     m: u32,
     n: u32,
     k: u32,
@@ -149,8 +132,7 @@ pub extern "C" fn lomvuze_verify(
 }
 
 // Decides an item with its witness. Checks 2, 3, 12, 4, 13, 10 and 11.
-#[unsafe(no_mangle)]
-pub extern "C" fn lomvuze_decide(
+pub fn lomvuze_decide(
     m: u32,
     n: u32,
     k: u32,
@@ -167,8 +149,7 @@ pub extern "C" fn lomvuze_decide(
 }
 
 // Reads a sheet into buffers of the greatest lengths; sizes gets m, n, k, the entries of A, B and C, and the count of pairs. Checks 1 to 4 and 13.
-#[unsafe(no_mangle)]
-pub extern "C" fn lomvuze_read_sheet(
+pub fn lomvuze_read_sheet(
     sheet: &[u8],
     a: &mut [u8],
     b: &mut [u8],

@@ -1,6 +1,6 @@
 -- Check 2: the counts that it permits, the sizes that follow, and its parts.
 use mathlib.Core.Path.{◌≡◌, sym, ap, ap₂, ◌∙◌}
-use mathlib.Core.Bool.{Bool, true, false, ◌&&◌, not}
+use mathlib.Core.Bool.{Bool, true, false, ◌&&◌}
 use mathlib.Core.List.{List}
 use Prim.Native.Nat.{ℕ, suc, ◌+◌, ◌-◌, ◌*◌, ◌≤◌, ◌<◌}
 use native.Mathlib.Nat.{mul-le-mul}
@@ -69,15 +69,15 @@ module _ (m n k l t : ℕ) (items positions quotient item openings : List ℕ) w
       && has_length item (item_size m n) && has_length openings (t * suc l * opening_size (depth k))
 
   module _ (challenge : ℕ) where
-    pub sizes-refused : {s i : Bool} → s ≡ sizes m n k → i ≡ item_count_fits l → not (s && i) ≡ true
+    pub sizes-refused : {s i : Bool} → s ≡ sizes m n k → i ≡ item_count_fits l → (s && i) ≡ false
         → false ≡ verify_fits m n k l t challenge items positions quotient item openings
     sizes-refused es ei h = ap (λ (a : Bool). put a (position_count_fits k t)) (sym (failed (ap₂ ◌&&◌ es ei) h))
 
     module _ (allowed : (sizes m n k && item_count_fits l) ≡ true) {c : Bool} (e : c ≡ position_count_fits k t) where
-      pub positions-refused : not c ≡ true → false ≡ verify_fits m n k l t challenge items positions quotient item openings
+      pub positions-refused : c ≡ false → false ≡ verify_fits m n k l t challenge items positions quotient item openings
       positions-refused h = ap₂ put (sym allowed) (sym (failed e h))
 
-      pub lengths-decide : {r : Bool} → not c ≡ false → r ≡ lengths (item_size m n) (opening_size (depth k)) (suc l)
+      pub lengths-decide : {r : Bool} → c ≡ true → r ≡ lengths (item_size m n) (opening_size (depth k)) (suc l)
           → r ≡ verify_fits m n k l t challenge items positions quotient item openings
       lengths-decide h g = g ∙ ap₂ put (sym allowed) (sym (passed e h))
 

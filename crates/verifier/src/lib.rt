@@ -1,4 +1,6 @@
 // Verifying a fold, without circuit and witness.
+#![tactic(auto)]
+
 mod combined;
 mod input;
 mod opened;

@@ -20,7 +20,7 @@ fn root_at(size: usize, front: usize, l: usize, items: &[u8], item: &[u8], i: us
 }
 
 // Whether all that was tested leads to its root, and how many blocks were hashed for it.
-#[derive(Drop)]
+#[derive(Clone, Copy)]
 pub struct Tested {
     pub lead: bool,
     pub blocks: u64,

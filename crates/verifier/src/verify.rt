@@ -14,7 +14,7 @@ ghost use Rattle.verifier.specs.Verifying.{Counts, Lengths};
 use crate::{combined, input, opened};
 
 // The verdict, and how many blocks were hashed up to it.
-#[derive(Drop)]
+#[derive(Clone, Copy)]
 pub struct Verified {
     pub verdict: u32,
     pub blocks: u64,

@@ -1,0 +1,13 @@
+-- `challenge::below` meets its contract.
+use mathlib.Core.Path.{sym, ap, ap₂, ◌∙◌}
+use mathlib.Core.Bool.{◌&&◌}
+use Prim.Native.Nat.{ℕ, ◌*◌}
+use native.Mathlib.Omega.{arith}
+use Rattle.checks.proofs.ListLaws.{items-below-read}
+use Rattle.draw.proofs.challenge.below.Goals as goal
+
+pub items_below-requires : goal.items_below-requires
+items_below-requires c = (omega (arith, c.size-size.ensures), c.requires.3 ∙ ap (λ (size : ℕ). c.args.l * size) (sym c.size-size.ensures))
+
+pub returns : goal.returns
+returns c = ap₂ ◌&&◌ (c.items_below.ensures ∙ items-below-read c.args.m c.args.n c.args.l c.args.items.now c.size-size.ensures) c.elements_below.ensures

@@ -1,0 +1,20 @@
+-- `open::write_in` meets its contract: the openings are those of the codeword.
+use mathlib.Core.Path.{◌∙◌}
+use native.Mathlib.Omega.{arith}
+use Rattle.theory.specs.Fp.{elements}
+use Rattle.checks.proofs.WitnessLaws.{codeword-leaves}
+use Rattle.encoder.proofs.OpeningLaws.{depth-few, openings-read, positions-inside, openings-room}
+use Rattle.encoder.proofs.open.write_in.Goals as goal
+
+pub write_openings-requires : goal.write_openings-requires
+write_openings-requires c = (
+  codeword-leaves c.args.k c.requires.0 (omega arith) c.depth_of.ensures,
+  omega (arith, c.depth_of.ensures, depth-few c.args.k c.requires.0),
+  positions-inside c.args.k c.args.t c.args.positions.now c.requires.3 c.requires.4 c.depth_of.ensures c.requires.0,
+  openings-room c.args.k c.args.t c.args.positions.now c.requires.3 c.requires.4 c.depth_of.ensures c.requires.6,
+)
+
+pub returns : goal.returns
+returns c =
+    c.write_openings.ensures
+    ∙ openings-read c.args.k c.args.t c.args.positions.now c.requires.3 c.requires.4 c.depth_of.ensures c.args.points.now c.requires.7 (elements c.args.k c.args.w.now) c.codeword.ensures

@@ -1,0 +1,19 @@
+-- `message::in_eight_bytes` meets its contract, byte by byte.
+-- Assumes nothing.
+use Rattle.std.proofs.Common.{[], ◌∷◌}
+use Rattle.hash.specs.Sha256.{up_to, in_bytes}
+use Rattle.hash.proofs.message.in_eight_bytes.Goals as goal
+
+pub returns : goal.returns
+unfolding in_bytes up_to
+returns c =
+    λ i.
+    c.byte.ensures i
+    ∷ c.byte-2.ensures i
+    ∷ c.byte-3.ensures i
+    ∷ c.byte-4.ensures i
+    ∷ c.byte-5.ensures i
+    ∷ c.byte-6.ensures i
+    ∷ c.byte-7.ensures i
+    ∷ c.byte-8.ensures i
+    ∷ []
