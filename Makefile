@@ -11,7 +11,7 @@ version := $(major).$(minor).$(call number,PATCH)
 staticlib := $(or $(LOMVUZE_STATICLIB),target/staticlib)
 bin := $(or $(LOMVUZE_BIN),target/bin)
 
-sources := crates.txt $(shell find crates -type f -not -path '*/must-fail/*')
+sources := crates.txt $(shell find crates \( -name out -o -name must-fail \) -prune -o -type f -print)
 
 # The library: an archive and a shared object. Before version 1 what a call takes and returns may change with the minor number, so the shared object's
 # name has it: a program is not loaded with other calls than it was compiled for.
@@ -42,7 +42,7 @@ $(shared): $(archive) c/lomvuze.map Makefile
 	$(CC) -shared -Wl,-soname,$(soname) -Wl,--version-script=c/lomvuze.map -Wl,-z,defs -Wl,-z,text -Wl,-z,now $(LDFLAGS) -o $@ \
 	    -Wl,--whole-archive $(archive) -Wl,--no-whole-archive
 
-# Proves a program, links it and runs it on its stored input.
+# Proves a program, builds it and runs it on its stored input.
 target/bin/%: $(sources)
 	@bash make/prove.sh check $*
 	@touch $@
@@ -118,7 +118,7 @@ uninstall:
 	rm -f $(foreach file,$(installed),$(call to,$(file)))
 	rm -rf $(call to,share/doc/lomvuze) $(call to,libexec/lomvuze)
 
-# The gate: every test and every proof, from nothing.
+# The gate: every proof and every test.
 test:
 	bash .ci/run
 

@@ -5,7 +5,7 @@ cd "$(dirname "$0")/.."
 lines() { { find "$@" -type f 2>/dev/null || true; } | xargs -r cat | wc -l; }
 edits() { { find "$@" -name '*.edit' 2>/dev/null || true; } | wc -l; }
 all=(0 0 0 0)
-for crate in $(sed -n 's/^\([a-z0-9]*\):.*/\1/p' crates.txt); do
+for crate in $(sed -n 's/^\([a-z0-9_]*\)\( staticlib\)\{0,1\}:.*/\1/p' crates.txt); do
     folder=crates/$crate
     row=("$(lines $folder/src -name '*.rt')" "$(lines $folder/specs -name '*.antt')" "$(lines $folder/proofs -name '*.antt')"
         "$(edits $folder/must-fail)")

@@ -6,7 +6,7 @@
 set -euo pipefail
 cd "$(dirname "$0")/.."
 if [ -z "${LOMVUZE_STATICLIB:-}" ]; then
-    bash make/alone.sh rt staticlib verdicts
+    bash make/prove.sh staticlib verdicts
 fi
 library="${LOMVUZE_STATICLIB:-target/staticlib}/libverdicts.a"
 folder=target/fuzz/replay

@@ -338,7 +338,7 @@ extern "C" {
  *
  * Checks, in this order: LOMVUZE_SIZE, LOMVUZE_ELEMENT, LOMVUZE_POINTS.
  *
- * Stack: 8,704 bytes.
+ * Stack: 9,216 bytes.
  */
 LOMVUZE_CALL
 uint32_t lomvuze_encode(uint32_t k,
@@ -386,7 +386,7 @@ uint32_t lomvuze_cast(uint32_t m, uint32_t n, uint32_t k,
  * Checks, in this order: LOMVUZE_SIZE, LOMVUZE_ELEMENT, LOMVUZE_POINTS, LOMVUZE_CIRCUIT,
  * LOMVUZE_FIRST_INPUT, LOMVUZE_ROOT, LOMVUZE_CLAIM.
  *
- * Stack: 9,216 bytes.
+ * Stack: 9,728 bytes.
  */
 LOMVUZE_CALL
 uint32_t lomvuze_quotient(uint32_t m, uint32_t n, uint32_t k, uint32_t l,
@@ -413,7 +413,7 @@ uint32_t lomvuze_quotient(uint32_t m, uint32_t n, uint32_t k, uint32_t l,
  * Checks, in this order: LOMVUZE_SIZE, LOMVUZE_ELEMENT, LOMVUZE_POINTS, LOMVUZE_CIRCUIT,
  * LOMVUZE_FIRST_INPUT, LOMVUZE_CHALLENGE, LOMVUZE_ROOT, LOMVUZE_CLAIM.
  *
- * Stack: 10,752 bytes.
+ * Stack: 11,264 bytes.
  */
 LOMVUZE_CALL
 uint32_t lomvuze_fold(uint32_t m, uint32_t n, uint32_t k, uint32_t l,

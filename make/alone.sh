@@ -1,10 +1,10 @@
 #!/usr/bin/env bash
-# Runs a command that runs rt on this checkout's target/, while no other one does: rt marks a crate as failed before it looks at it, so that a second
-# run in the same target/ takes it for unproved. Where another command is under way, says so and waits for its end.
+# Runs a command that runs rt in this checkout, while no other one does: two at once would share processors and memory, wait for each other at each crate,
+# and write the same files of target/. Where another command is under way, says so and waits for its end.
 #
 #   make/alone.sh COMMAND...
 #
-# The lock is on the checkout's folder, since rt ci removes target/. It lasts until the last process of the command has ended. Needs flock (util-linux).
+# The lock is on the checkout's folder. It lasts until the last process of the command has ended. Needs flock (util-linux).
 # Exit status: that of the command, or 2 where there is no flock, or where the command calls this script again, which would wait for itself.
 set -euo pipefail
 folder=$(cd "$(dirname "$0")/.." && pwd -P)

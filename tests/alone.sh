@@ -1,12 +1,13 @@
 #!/usr/bin/env bash
-# No two runs of rt share a target/: commands that make/alone.sh runs do not overlap, whichever way they are started, and nothing in the repository runs
-# rt on target/ without it. In a copy with nothing to prove and a stand-in for rt, which notes when it starts and ends. It takes seconds.
+# No two runs of rt share a checkout: commands that make/alone.sh runs do not overlap, whichever way they are started, and nothing in the repository runs
+# rt there without it. In a copy with nothing to prove and a stand-in for rt, which notes when it starts and ends. It takes seconds.
 set -euo pipefail
 . "$(dirname "$0")/common.sh"
 unset LOMVUZE_STATICLIB LOMVUZE_BIN LOMVUZE_ALONE
 temporary
 
-mkdir "$folder/tools" "$folder/copy" "$folder/copy/crates"
+mkdir -p "$folder/tools" "$folder"/copy/crates/{claims,harness,verdicts_c}
+: >"$folder/copy/crates/claims/stdout"
 cp -R make Makefile crates.txt toolchain.txt include "$folder/copy"
 cat >"$folder/tools/rt" <<'END'
 #!/bin/sh
@@ -14,10 +15,10 @@ cat >"$folder/tools/rt" <<'END'
 echo start >>"$NOTES"
 until [ "$(grep -c start "$NOTES")" -ge "${BESIDE:-1}" ]; do sleep 0.1; done
 sleep 0.1
-mkdir -p target/bin target/staticlib
+mkdir -p out
 case $1 in
-check) shift; for crate; do : >"target/bin/$crate"; done ;;
-staticlib) : >"target/staticlib/lib$2.a" ;;
+run) : >"out/${PWD##*/}" ;;
+lib) : >"out/lib${PWD##*/}.a" ;;
 esac
 echo end >>"$NOTES"
 END
@@ -56,16 +57,16 @@ touch "$folder/go"
 wait
 apart 3 'three commands'
 
-# Of several targets, and of two makes. A library takes two runs of rt, a program one.
+# Of several targets, and of two makes. Each takes two runs of rt: all check, and then lib or run.
 targets=(target/bin/claims target/staticlib/libharness.a target/staticlib/libverdicts.a)
 rm -rf target
 make -s -j4 "${targets[@]}" >"$folder/said" 2>&1 || fail "make -j4: $(cat "$folder/said")"
-apart 5 'make -j4'
+apart 6 'make -j4'
 rm -rf target
 make -s claims >"$folder/said" 2>&1 & first=$!
 make -s "${targets[@]:1}" >"$folder/said.too" 2>&1 || fail "two makes: $(cat "$folder/said.too")"
 wait $first || fail "two makes: $(cat "$folder/said")"
-apart 5 'two makes'
+apart 6 'two makes'
 
 # What a command leaves running still holds the lock, as where rt is killed and its provers are not.
 bash make/alone.sh sh -c 'rt check claims &'
@@ -86,11 +87,11 @@ ln -s "$(command -v bash)" "$(command -v dirname)" "$folder/few"
 ends 2 'flock, which keeps two runs of rt apart, is missing' env PATH="$folder/few" bash make/alone.sh rt check claims
 [ ! -e "$NOTES" ] || fail 'what is refused runs rt'
 
-# No script starts rt on target/ in another way, but those that start themselves anew under the lock.
+# No script starts rt in the checkout in another way, but those that start themselves anew under the lock.
 cd "$OLDPWD"
 for file in Makefile .ci/run {make,tests,fuzz,docs}/*.sh; do
     [ "$file" != tests/alone.sh ] && ! grep -q "exec bash make/alone.sh bash $file" "$file" || continue
-    line=$(grep -nE '(^|[;&|({@]|if|then|do|else|!|time)[[:space:]]*rt (ci|check|prove|dev|staticlib|must-fail|goals|mir)' "$file" || true)
+    line=$(grep -nE '(^|[;&|({@]|if|then|do|else|!|time)[[:space:]]*rt (ci|check|all|lib|run|test|tidy|verdict|must-fail|plant)' "$file" || true)
     [ -z "$line" ] || fail "$file runs rt without make/alone.sh: $line"
     passed=$((passed + 1))
 done

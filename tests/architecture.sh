@@ -13,8 +13,8 @@ for picture in crates chain; do
 done
 
 # The table of the crates.
-expected=$(sed -n 's/^\([a-z0-9]*\): .*/\1/p' docs/crates-in-words.txt)
-listed=$(sed -n '/^| crate |/,/^$/s/^| `\([a-z0-9]*\)` |.*/\1/p' $page)
+expected=$(sed -n 's/^\([a-z0-9_]*\): .*/\1/p' docs/crates-in-words.txt)
+listed=$(sed -n '/^| crate |/,/^$/s/^| `\([a-z0-9_]*\)` |.*/\1/p' $page)
 diff <(echo "$expected") <(echo "$listed") || fail "$page has another list of crates than docs/crates-in-words.txt"
 
 # Whether a path is there, as it stands or with an ending.

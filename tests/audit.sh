@@ -15,7 +15,7 @@ shows $page "has $(find crates -path '*/must-fail/*.edit' | wc -l) edits" 'count
 
 # Every theorem that a page names, a law of proofs/, is in the reading list.
 pages=(README.md docs/{AUDIT,CALLS,FORMAT,OBLIGATIONS,SHEETS}.md)
-for name in $(grep -ohE '`[a-zA-Z0-9]+(-[a-z0-9]+)+`' "${pages[@]}" | tr -d '`' | sort -u); do
+for name in $(grep -ohE '`[a-zA-Z0-9_]+(-[a-z0-9_]+)+`' "${pages[@]}" | tr -d '`' | sort -u); do
     grep -qE "^ *pub $name :" crates/*/proofs/*.antt || continue
     grep -qF "| \`$name\` |" docs/READING.md || fail "a page names \`$name\`, and docs/READING.md has not what it rests on"
     passed=$((passed + 1))

@@ -1,6 +1,6 @@
 #!/usr/bin/env bash
 # The calls are the same ones everywhere. The description, rust/calls/calls.txt, agrees with the header's prototypes and the checks that its comments list,
-# with what crates/verdicts/src exports and both archives define, with lomvuze.hpp, the man page and the table of docs/CALLS.md; and each call has a fuzz
+# with what crates/verdicts_c/src exports and both archives define, with lomvuze.hpp, the man page and the table of docs/CALLS.md; and each call has a fuzz
 # target and seeds. Then the controls: each kind of change is noticed, and a malformed description is refused by its line.
 # LOMVUZE_STATICLIB names another folder with libverdicts.a in it; nothing is proved then. Needs awk, nm and a C compiler.
 set -euo pipefail
@@ -25,7 +25,7 @@ overview() { sed -n '/^ \* CALLS/,/^ \*$/s/^ \*   lomvuze_\([a-z_]*\) .*/\1/p' "
 sort "$folder/names" >"$folder/sorted_names"
 overview include/lomvuze.h | same "$folder/sorted_names" 'what the first comment of include/lomvuze.h names'
 
-# ---- What verdicts exports. An output's name gets _out; two parameters have a name in the header that says more.
+# ---- What verdicts_c exports. An output's name gets _out; two parameters have a name in the header that says more.
 exported() {
     tr '\n' ' ' <"$1" | grep -o 'pub extern "C" fn [^{]*' |
         sed 's/.* fn //; s/ *ensures .*//; s/, *)/)/; s/( */(/; s/) *-> */)/; s/ *$//' |
@@ -54,8 +54,8 @@ exported() {
                 }
             }' | sort
 }
-cat crates/verdicts/src/*.rt >"$folder/verdicts.rt"
-exported "$folder/verdicts.rt" | same "$folder/sorted_prototypes" 'what crates/verdicts/src exports'
+cat crates/verdicts_c/src/*.rt >"$folder/verdicts.rt"
+exported "$folder/verdicts.rt" | same "$folder/sorted_prototypes" 'what crates/verdicts_c/src exports'
 
 # ---- The archives: the proved one has the calls alone, that for programs two functions more
 symbols() { nm --defined-only "$1" | awk '$3 ~ /^lomvuze_/ { print $2, $3 }' | sort; }

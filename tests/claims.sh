@@ -4,7 +4,7 @@
 set -euo pipefail
 . "$(dirname "$0")/common.sh"
 if [ -z "${LOMVUZE_BIN:-}" ]; then
-    bash make/alone.sh rt check claims
+    bash make/prove.sh check claims
 fi
 libraries verdicts
 claims="${LOMVUZE_BIN:-target/bin}/claims"

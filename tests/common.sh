@@ -29,7 +29,7 @@ temporary() {
 libraries() {
     local name
     [ -z "${LOMVUZE_STATICLIB:-}" ] || return 0
-    for name; do bash make/alone.sh rt staticlib "$name"; done
+    for name; do bash make/prove.sh staticlib "$name"; done
 }
 
 # The indented blocks of a page, each with a zero byte behind it.

@@ -16,7 +16,7 @@ make -s demo >"$folder/out"
 passed=$((passed + 1))
 
 # A copy with nothing built and nothing to prove, and the programs of this machine without rt and cc.
-mkdir "$folder/tools" "$folder/copy" "$folder/copy/crates"
+mkdir -p "$folder/tools" "$folder/copy/crates/verdicts_c"
 cp -R $(ls -A | grep -vxE 'target|crates|rust|\.git') "$folder/copy"
 for path in ${PATH//:/ }; do
     ln -s -t "$folder/tools" "$path"/* 2>/dev/null || true
@@ -34,14 +34,23 @@ demo() { # demo STATUS NAME TEXT...
     done
     passed=$((passed + 1))
 }
-stand_in() { # stand_in VERSION COMMANDS: an rt that prints the version, and runs the commands for `check` and `staticlib`
+stand_in() { # stand_in VERSION COMMANDS: an rt that prints the version, and runs the commands for `all` and `lib`
     printf '#!/bin/sh\nif [ "$1" = version ]; then echo "%s"; exit; fi\n%s\n' "$1" "$2" >"$folder/tools/rt"
     chmod 755 "$folder/tools/rt"
 }
 version=$(cat toolchain.txt)
+# What the calls stand on, lowest first as far as it matters here; the lowest is unchanged.
+crates=verdicts_c
+while more=$(for crate in $crates; do
+    echo "$crate $crate"
+    for below in $(sed -n "s/^$crate\( staticlib\)\{0,1\}: *//p" crates.txt); do [ ! -d "crates/$below" ] || echo "$below $crate"; done
+done | tsort | xargs); [ "$(wc -w <<<"$more")" != "$(wc -w <<<"$crates")" ]; do crates=$more; done
 proves='case $1 in
-check) shift; for crate; do echo "fn $crate::f: proved"; echo "rt: $crate proved (1 s)"; done ;;
-staticlib) mkdir -p target/staticlib && cp '"'$library'"' target/staticlib ;;
+all)
+    echo "== algebra"
+    for crate in '${more#algebra }'; do printf "== %s\\nfn %s::error: proved\\nlogic=proved functions=1\\n" $crate $crate; done
+    printf "== summary\\nalgebra: ok\\n" ;;
+lib) mkdir -p out && cp '"'$library'"' out/libverdicts_c.a ;;
 esac'
 
 stand_in "$version" 'echo called >&2'
@@ -53,23 +62,24 @@ rm "$folder/tools/rt"
 demo 2 'without rt' 'there is no rt on PATH' "$version"
 ! grep -q 'not found' "$folder/out" || fail "without rt: the shell's error"
 
-total=$(awk '/^verdicts:/ { print NF }' crates.txt)
+total=$(wc -w <<<"$more")
 stand_in "$version" "$proves"
 mv "$folder/tools/flock" "$folder/flock"
 demo 2 'without flock' 'flock, which keeps two runs of rt apart, is missing'
 mv "$folder/flock" "$folder/tools/flock"
-demo 0 'proving' 'target/prove-verdicts.log' '  1 of ' '  1 s' 'decide 0: accepted'
+demo 0 'proving' 'target/prove-verdicts.log' "  1 of $total  algebra     unchanged" 'decide 0: accepted'
 ! grep -q warning "$folder/out" || fail 'proving: a warning'
 [ "$(tail -n +"$(($(grep -n '^proved in' "$folder/out" | cut -d: -f1) + 1))" "$folder/out")" = "$expected" ] || fail 'proving: another demo'
-lines=$(grep -cE '^ *[0-9]+ of [0-9]+  [a-z0-9]+ +[0-9]+ s$' "$folder/out")
+lines=$(grep -cE '^ *[0-9]+ of [0-9]+  [a-z0-9_]+ +([0-9]+ s|unchanged)$' "$folder/out")
 last=$(grep -E '^ *[0-9]+ of ' "$folder/out" | tail -n 1)
-[[ $last =~ ^\ *$lines\ of\ $lines\ \ verdicts ]] && [ "$lines" -ge "$total" ] || fail "proving: $lines lines, the last one: $last"
-grep -q '^fn algebra::f: proved$' "$folder/copy/target/prove-verdicts.log" || fail "proving: the log lacks rt's lines"
+[[ $last =~ ^\ *$total\ of\ $total\ \ verdicts_c ]] && [ "$lines" = "$total" ] || fail "proving: $lines lines, the last one: $last"
+grep -q '^fn hash::error: proved$' "$folder/copy/target/prove-verdicts.log" || fail "proving: the log lacks rt's lines"
 
 stand_in 'another version' "$proves"
 demo 0 'another version' "warning: rt version prints 'another version', and '$version' is expected" 'decide 0: accepted'
 
-stand_in "$version" 'echo "rt: algebra proved (1 s)"; echo "Proof.antt:1:1: error"; echo "rt: hash NOT PROVED (exit 1, 2 s)"; exit 1'
-demo 2 'a proof that fails' '  1 of ' 'the last lines of target/prove-verdicts.log' 'rt: hash NOT PROVED' 'Proof.antt:1:1: error'
+stand_in "$version" 'printf "== algebra\nlogic=proved\n== hash\nAnswers.antt:1:1: error\nlogic=not-proved\n== summary\nhash: failed (1)\n"; seq 30; exit 1'
+demo 2 'a proof that fails' '  1 of ' 'the last lines of target/prove-verdicts.log' 'Answers.antt:1:1: error'
+! grep -q ' 2 of ' "$folder/out" || fail 'a proof that fails: its crate is said to be proved'
 ! grep -q 'accepted' "$folder/out" || fail 'a proof that fails: the demo goes on'
 echo "demo: $passed runs as expected"

@@ -16,6 +16,12 @@ for page in README.md docs/SHEETS.md; do
     shows $page "$(indented examples/sheets/printed.listing)" 'listing of the printed sheet'
 done
 
+# Copies of files, since rt ci takes no links.
+for copy in rust/{calls,lomvuze,verdicts}/LICENSE=LICENSE examples/sheets/printed.{sheet=crates/claims/stdin,listing=crates/claims/stdout}; do
+    cmp "${copy%=*}" "${copy#*=}" || fail "${copy%=*} is no copy of ${copy#*=}"
+    shown=$((shown + 1))
+done
+
 # What a newcomer reads to the end.
 words=$(wc -w <README.md)
 [ "$words" -le 2500 ] || fail "README.md has $words words, and 2,500 at most are to be read"

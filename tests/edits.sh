@@ -1,6 +1,6 @@
 #!/usr/bin/env bash
-# Each edit of crates/*/must-fail fits: a line that it replaces stands once in its file. It takes a second, where the prover finds an edit that does not
-# fit after minutes. Run from anywhere.
+# Each edit of crates/*/must-fail fits: a text that it replaces stands once in its file. It takes a second, where `rt ci` counts an edit that does not fit
+# as bad after minutes. Run from anywhere.
 set -euo pipefail
 . "$(dirname "$0")/common.sh"
 failed=0 edits=0
@@ -12,8 +12,8 @@ for edit in crates/*/must-fail/*.edit; do
         'file: '*) file=$crate/${line#file: } ;;
         'old: '*)
             lines=$((lines + 1))
-            found=$(grep -cF -- "${line#old: }" "$file" || true)
-            [ "$found" = 1 ] || { echo "FAILED: $edit: found on $found lines of $file: ${line#old: }"; failed=1; }
+            found=$(grep -oF -- "${line#old: }" "$file" | wc -l || true)
+            [ "$found" = 1 ] || { echo "FAILED: $edit: found $found times in $file: ${line#old: }"; failed=1; }
             ;;
         esac
     done <"$edit"

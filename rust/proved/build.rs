@@ -9,7 +9,7 @@ fn main() {
         None => PathBuf::from(std::env::var_os("CARGO_MANIFEST_DIR").unwrap()).join("../../target/staticlib"),
     };
     let library = folder.join("libharness.a");
-    assert!(library.exists(), "{} is missing: build it with `rt staticlib harness`", library.display());
+    assert!(library.exists(), "{} is missing: build it with `make target/staticlib/libharness.a`", library.display());
     println!("cargo:rerun-if-env-changed=LOMVUZE_STATICLIB");
     println!("cargo:rerun-if-changed={}", library.display());
     println!("cargo:rustc-link-search=native={}", folder.display());

@@ -8,9 +8,9 @@ use lomvuze_trials::{Chain, Honest, Random, REFERENCE};
 /// The blocks of a message.
 fn of_message(message: &[u8]) -> Equation {
     Equation {
-        left: format!("blockCount {}", list(message)),
+        left: format!("block_count {}", list(message)),
         right: hash(message).blocks.to_string(),
-        unfolding: "blockCount pad padding zeros inBytes upTo".to_string(),
+        unfolding: "block_count pad padding zeros in_bytes up_to".to_string(),
         proof: "refl".to_string(),
     }
 }
@@ -23,7 +23,7 @@ fn of_fold(random: &mut Random, k: u32, l: u32, t: u32) -> Equation {
     let answer = Chain::new(&REFERENCE, &list, l, &positions).verify(&REFERENCE, &list);
     assert_eq!(verdict(answer), 0);
     Equation {
-        left: format!("foldBlocks {k} {l} {t}"),
+        left: format!("fold_blocks {k} {l} {t}"),
         right: blocks(answer).to_string(),
         unfolding: "depth".to_string(),
         proof: "refl".to_string(),
@@ -45,11 +45,10 @@ pub fn counts() -> File {
     }
     equations.push(of_fold(random, 64, 8, 256));
     let head = "-- The blocks of messages, and of accepted folds.
-use mathlib.Core.Path.{_≡_, refl}
-use mathlib.Core.List.{List, [], _∷_}
-use Rattle·hash.specs.Sha256.{blockCount, pad, padding, zeros, inBytes, upTo}
-use Rattle·code.specs.Points.{depth}
-use Rattle·theory.specs.Blocks.{foldBlocks}
+use Rattle.std.specs.Prelude.{◌≡◌, refl, List, [], ◌∷◌}
+use Rattle.hash.specs.Sha256.{block_count, pad, padding, zeros, in_bytes, up_to}
+use Rattle.code.specs.Points.{depth}
+use Rattle.theory.specs.Blocks.{fold_blocks}
 "
     .to_string();
     File { name: "Counts", head, equations }

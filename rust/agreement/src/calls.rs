@@ -76,27 +76,27 @@ impl Call {
         let lent = if self.buffers[0].is_empty() { "" } else { "lent-" };
         match (self.name, verdict) {
             ("encode", 0) => (
-                format!("encodeOver {tests} bytes val ofℕ"),
+                format!("encode_over {tests} bytes val ofℕ"),
                 format!("λ i. record {{ answer = 0; code = bytes (map val ({lent}codeword-is i)); root = {lent}root-is i }}"),
             ),
             // Check 13, and what comes behind it.
             ("cast" | "quotient" | "fold" | "verify", 13 | 5 | 6) | ("cast", 11) => (
-                format!("{tests} depth babyBear val ofℕ"),
+                format!("{tests} depth baby_bear val ofℕ"),
                 format!("{}-runs {arguments} ∙ refl", self.name),
             ),
             ("decide", 13) => {
-                (format!("{tests} babyBear val ofℕ"), format!("decide-tests {arguments} ∙ refl"))
+                (format!("{tests} baby_bear val ofℕ"), format!("decide-tests {arguments} ∙ refl"))
             }
             ("decide", 0 | 10 | 11) => (
-                format!("{tests} itemAt babyBear val ofℕ"),
+                format!("{tests} item_at baby_bear val ofℕ"),
                 format!("decide-runs {arguments} _ {lent}root-is ∙ refl"),
             ),
             ("verify", 7) => (
-                format!("{tests} depth itemAt val"),
+                format!("{tests} depth item_at val"),
                 format!("verify-runs {arguments} ∙ {}", combined(self.numbers[3] as usize)),
             ),
             // The definition over an instance: the name alone is an abbreviation.
-            (name, _) => (format!("{}Over {tests} depth", name.trim_matches(['«', '»'])), "refl".to_string()),
+            (name, _) => (format!("{}_over {tests} depth", name.trim_matches(['«', '»'])), "refl".to_string()),
         }
     }
 
@@ -119,11 +119,11 @@ impl Call {
         };
         let arguments = self.arguments();
         let (elements, proof) = match runs_13 {
-            true => (" babyBear val ofℕ", format!("{name}-early {arguments} ∙ refl")),
+            true => (" baby_bear val ofℕ", format!("{name}-early {arguments} ∙ refl")),
             false => ("", "refl".to_string()),
         };
         Equation {
-            left: format!("answer (take {early} ({name}Checks {arguments}))"),
+            left: format!("answer (take {early} ({name}_checks {arguments}))"),
             right: "0".to_string(),
             unfolding: format!("{TESTS} depth{elements}"),
             proof,
@@ -154,7 +154,7 @@ impl Call {
 }
 
 /// The definitions that the tests of the checks are computed by.
-const TESTS: &str = "every allBelow allDifferent numbers";
+const TESTS: &str = "every all_below all_different numbers";
 
 /// How many equations each call gets for each verdict.
 const EACH: usize = 6;
@@ -166,22 +166,21 @@ fn runs_unhashed(name: &str, verdict: u32) -> bool {
 }
 
 const HEAD: &str = "-- What the calls answer to damaged input, and what their output buffers then hold.
-use mathlib.Core.Path.{_≡_, refl, _∙_}
-use mathlib.Core.List.{List, [], _∷_, map}
-use Rattle·field.specs.BabyBear.{babyBear, val, ofℕ}
-use Rattle·numbers.specs.Numbers.{numbers, allBelow, allDifferent, bytes}
-use Rattle·code.specs.Points.{depth}
-use lib.ListN.{take}
-use Rattle·theory.specs.Checks.{every, answer}
-use Rattle·theory.specs.Combination.{itemAt}
-use Rattle·theory.specs.Calls.{encode as encodeOver, cast as castOver, quotient as quotientOver, fold as foldOver, «open» as openOver, interleave as interleaveOver, decide as decideOver}
-use Rattle·theory.specs.Verify.{verify as verifyOver}
-use Rattle·theory.specs.Fp.{encode, cast, quotient, fold, «open», interleave, verify, decide}
-use Rattle·theory.specs.Fp.{encodeChecks, castChecks, quotientChecks, foldChecks, openChecks, interleaveChecks, verifyChecks, decideChecks}
-use Rattle·agreement·specs.specs.Elements.{listed}
-use Rattle·agreement·specs.specs.Runs.{cast-runs, cast-early, quotient-runs, quotient-early, fold-runs, fold-early, decide-runs, decide-tests, decide-early, verify-runs, verify-refused, verify-early}
-use Rattle·agreement·specs.specs.Inverses.{inverse-0-1, inverse-1-0}
-use Rattle·agreement·specs.specs.Digests.{equation-16 as codeword-is, equation-17 as root-is, equation-34 as lent-codeword-is, equation-35 as lent-root-is}
+use Rattle.std.specs.Prelude.{◌≡◌, refl, List, [], ◌∷◌, map, take}
+use Rattle.std.proofs.Common.{◌∙◌}
+use Rattle.field.specs.BabyBear.{baby_bear, val, ofℕ}
+use Rattle.numbers.specs.Numbers.{numbers, all_below, all_different, bytes}
+use Rattle.code.specs.Points.{depth}
+use Rattle.theory.specs.Checks.{every, answer}
+use Rattle.theory.specs.Combination.{item_at}
+use Rattle.theory.specs.Calls.{encode as encode_over, cast as cast_over, quotient as quotient_over, fold as fold_over, «open» as open_over, interleave as interleave_over, decide as decide_over}
+use Rattle.theory.specs.Verify.{verify as verify_over}
+use Rattle.theory.specs.Fp.{encode, cast, quotient, fold, «open», interleave, verify, decide}
+use Rattle.theory.specs.Fp.{encode_checks, cast_checks, quotient_checks, fold_checks, open_checks, interleave_checks, verify_checks, decide_checks}
+use Rattle.agreement.specs.Elements.{listed}
+use Rattle.agreement.specs.Runs.{cast-runs, cast-early, quotient-runs, quotient-early, fold-runs, fold-early, decide-runs, decide-tests, decide-early, verify-runs, verify-refused, verify-early}
+use Rattle.agreement.specs.Inverses.{inverse-0-1, inverse-1-0}
+use Rattle.agreement.specs.Digests.{equation-16 as codeword-is, equation-17 as root-is, equation-34 as lent-codeword-is, equation-35 as lent-root-is}
 ";
 
 pub fn answers() -> File {

@@ -7,20 +7,18 @@ use lomvuze_reference::claims::{self, Circuit, Entry, Item};
 use lomvuze_reference::field::Element;
 use lomvuze_trials::Random;
 
-const HEAD: &str = "use mathlib.Core.Path.{_≡_, refl}
-use mathlib.Core.List.{List, [], _∷_, _++_, map}
-use Prim.Native.Nat.{ℕ}
-use Rattle·algebra.specs.Lists.{build}
-use Rattle·field.specs.BabyBear.{babyBear, R, F, val, ofℕ}
-use Rattle·theory.specs.R1cs.{value, weight}
-use Rattle·theory.specs.Items.{Item}
-use Rattle·theory.specs.Combination.{L, Z, itemAt, newR, newX, newW, newE, quotientOf}
-use Rattle·agreement·specs.specs.Elements.{listed, entry, item, ith}
+const HEAD: &str = "use Rattle.std.specs.Prelude.{◌≡◌, refl, List, [], ◌∷◌, ◌++◌, map, ℕ}
+use Rattle.algebra.specs.Lists.{build}
+use Rattle.field.specs.BabyBear.{baby_bear, R, F, val, ofℕ}
+use Rattle.theory.specs.R1cs.{value, weight}
+use Rattle.theory.specs.Items.{Item}
+use Rattle.theory.specs.Combination.{L, Z, item_at, new_r, new_x, new_w, new_e, quotient_of}
+use Rattle.agreement.specs.Elements.{listed, entry, item, ith}
 ";
 
 fn head(about: &str) -> String {
     let inverses: Vec<String> = known_inverses().into_iter().map(|known| known.name).collect();
-    format!("-- {about}\n{HEAD}use Rattle·agreement·specs.specs.Inverses.{{{}}}\n", inverses.join(", "))
+    format!("-- {about}\n{HEAD}use Rattle.agreement.specs.Inverses.{{{}}}\n", inverses.join(", "))
 }
 
 pub fn number(n: usize) -> Element {
@@ -41,7 +39,7 @@ fn value_of(matrices: &Circuit, r: &[Element], x: &[Element], w: &[Element]) -> 
     Equation {
         left: format!("val (value R {} {} {} {})", circuit(matrices), elements(r), elements(x), elements(w)),
         right: claims::value(matrices, r, x, w).number().to_string(),
-        unfolding: "babyBear val ofℕ".to_string(),
+        unfolding: "baby_bear val ofℕ".to_string(),
         proof: "refl".to_string(),
     }
 }
@@ -66,7 +64,7 @@ fn weight_of(r: &[Element], j: usize) -> Equation {
     Equation {
         left: format!("val (weight R {} {j})", elements(r)),
         right: claims::weight(r, j).number().to_string(),
-        unfolding: "babyBear val ofℕ".to_string(),
+        unfolding: "baby_bear val ofℕ".to_string(),
         proof: "refl".to_string(),
     }
 }
@@ -91,7 +89,7 @@ fn item(item: &Item) -> String {
 fn basis_at(l: usize, a: Element) -> Equation {
     let basis: Vec<Element> = (0..l).map(|i| claims::lagrange(l, i).at(a)).collect();
     Equation {
-        left: format!("map val (build {l} (λ i. L babyBear {l} i (ofℕ {})))", a.number()),
+        left: format!("map val (build {l} (λ i. L baby_bear {l} i (ofℕ {})))", a.number()),
         right: numbers(&basis),
         unfolding: "val".to_string(),
         proof: combined(l),
@@ -100,7 +98,7 @@ fn basis_at(l: usize, a: Element) -> Equation {
 
 fn vanishing_at(l: usize, a: Element) -> Equation {
     Equation {
-        left: format!("val (Z babyBear {l} (ofℕ {}))", a.number()),
+        left: format!("val (Z baby_bear {l} (ofℕ {}))", a.number()),
         right: claims::vanishing(l).at(a).number().to_string(),
         unfolding: "val".to_string(),
         proof: computed(vec![]),
@@ -117,10 +115,10 @@ fn new_at(items: &[Item], witnesses: &[Vec<Element>], quotient: &[Element], a: E
     let a = format!("(ofℕ {})", a.number());
     Equation {
         left: format!(
-            "map val (newE babyBear {list_of} {q} {a} ∷ newR babyBear {m} {list_of} {a} ++ newX babyBear {n} {list_of} {a} ++ newW babyBear {k} {l} (ith [] {ws}) {a})"
+            "map val (new_e baby_bear {list_of} {q} {a} ∷ new_r baby_bear {m} {list_of} {a} ++ new_x baby_bear {n} {list_of} {a} ++ new_w baby_bear {k} {l} (ith [] {ws}) {a})"
         ),
         right: numbers(&[&[e][..], &r, &x, &w].concat()),
-        unfolding: "itemAt val".to_string(),
+        unfolding: "item_at val".to_string(),
         proof: combined(l),
     }
 }
@@ -174,13 +172,13 @@ fn quotient_of(matrices: &Circuit, items: &[Item], witnesses: &[Vec<Element>]) -
     }
     Equation {
         left: format!(
-            "map val (quotientOf babyBear {} {m} {n} {k} {} (ith [] {}))",
+            "map val (quotient_of baby_bear {} {m} {n} {k} {} (ith [] {}))",
             circuit(matrices),
             list(items.iter().map(item)),
             list(witnesses.iter().map(|w| elements(w)))
         ),
         right: numbers(&quotient),
-        unfolding: "itemAt quotientOf val".to_string(),
+        unfolding: "item_at quotient_of val".to_string(),
         proof: computed(inverses),
     }
 }

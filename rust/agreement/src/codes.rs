@@ -9,19 +9,18 @@ use lomvuze_trials::{number_at, points as samples, Random};
 /// The reference's points, proved to be the definition's: first the table of 256, then every (64 / k)-th of them.
 pub fn points() -> String {
     let mut text = "-- The points of the code as numbers.
-use mathlib.Core.Path.{_≡_, refl, sym, _∙_}
-use mathlib.Core.List.{List, [], _∷_, map}
-use Prim.Native.Nat.{ℕ}
-use Rattle·field.specs.BabyBear.{val}
-use Rattle·code.specs.Points.{points}
-use Rattle·code.proofs.Generator.{powersFrom, table-points}
-use Rattle·code.proofs.Taken.{taken-points}
-use Rattle·agreement·specs.specs.Elements.{listed}
+use Rattle.std.specs.Prelude.{◌≡◌, refl, List, [], ◌∷◌, map, ℕ}
+use Rattle.std.proofs.Common.{sym, ◌∙◌}
+use Rattle.field.specs.BabyBear.{val}
+use Rattle.code.specs.Points.{points}
+use Rattle.code.proofs.Generator.{powers_from, table-points}
+use Rattle.code.proofs.Taken.{taken-points}
+use Rattle.agreement.specs.Elements.{listed}
 "
     .to_string();
     let table = |k| numbers(&code::built_in_points(k));
     text += &format!(
-        "\nabbrev pub table : List ℕ\ntable = {}\n\npub whole : table ≡ map val (points 64)\nunfolding powersFrom\nwhole = table-points table refl tt\n",
+        "\nabbrev pub table : List ℕ\ntable = {}\n\npub whole : table ≡ map val (points 64)\nunfolding powers_from\nwhole = table-points table refl tt\n",
         table(64)
     );
     for k in [2, 4, 8, 16, 32, 64] {
@@ -44,11 +43,11 @@ pub fn used(k: usize, lent: &[u8]) -> Vec<Element> {
 /// The codeword of w where these points are lent, none for the built-in ones.
 fn codeword_of(lent: &[u8], w: &[Element]) -> Equation {
     let k = w.len();
-    let computed = "unfold babyBear val ofℕ pow in refl";
+    let computed = "unfold baby_bear val ofℕ pow in refl";
     Equation {
-        left: format!("map val (codewordOf {k} {} {})", list(lent), elements(w)),
+        left: format!("map val (codeword_of {k} {} {})", list(lent), elements(w)),
         right: numbers(&code::codeword(&used(k, lent), w)),
-        unfolding: "codeword valueAt numbers val".to_string(),
+        unfolding: "codeword value_at numbers val".to_string(),
         proof: if lent.is_empty() { format!("rw (points-{k}) ({computed})") } else { computed.to_string() },
     }
 }
@@ -67,15 +66,14 @@ pub fn codewords() -> File {
         }
     }
     let head = "-- Codewords of witnesses.
-use mathlib.Core.Path.{_≡_, refl}
-use mathlib.Core.List.{List, [], _∷_, map}
-use Rattle·algebra.specs.Polynomial.{pow}
-use Rattle·field.specs.BabyBear.{babyBear, val, ofℕ}
-use Rattle·numbers.specs.Numbers.{numbers}
-use Rattle·code.specs.Codeword.{codeword, valueAt}
-use Rattle·theory.specs.Fp.{codewordOf}
-use Rattle·agreement·specs.specs.Elements.{listed}
-use Rattle·agreement·specs.specs.Points.{points-2, points-4, points-8, points-16}
+use Rattle.std.specs.Prelude.{◌≡◌, refl, List, [], ◌∷◌, map}
+use Rattle.algebra.specs.Polynomial.{pow}
+use Rattle.field.specs.BabyBear.{baby_bear, val, ofℕ}
+use Rattle.numbers.specs.Numbers.{numbers}
+use Rattle.code.specs.Codeword.{codeword, value_at}
+use Rattle.theory.specs.Fp.{codeword_of}
+use Rattle.agreement.specs.Elements.{listed}
+use Rattle.agreement.specs.Points.{points-2, points-4, points-8, points-16}
 "
     .to_string();
     File { name: "Codewords", head, equations }
@@ -94,10 +92,9 @@ pub fn entries() -> File {
         }
     });
     let head = "-- Entries of a tree: the position, then the value.
-use mathlib.Core.Path.{_≡_, refl}
-use mathlib.Core.List.{List, [], _∷_}
-use Rattle·numbers.specs.Numbers.{bytes4}
-use Rattle·tree.specs.Entry.{entry}
+use Rattle.std.specs.Prelude.{◌≡◌, refl, List, [], ◌∷◌}
+use Rattle.numbers.specs.Numbers.{bytes4}
+use Rattle.tree.specs.Entry.{entry}
 "
     .to_string();
     File { name: "Entries", head, equations: equations.into() }
@@ -121,18 +118,17 @@ pub fn digests() -> File {
         digests_at(&points, codeword_numbers, &mut equations);
     }
     let head = "-- The digests of the trees over two codewords of one witness, their roots, and the codewords as elements.
-use mathlib.Core.Path.{_≡_, refl, sym, _∙_, ap, ap₂}
-use mathlib.Core.List.{List, [], _∷_}
-use Prim.Native.Nat.{ℕ}
-use Rattle·field.specs.BabyBear.{babyBear, F, val, ofℕ}
-use Rattle·tree.specs.Merkle.{leafString, nodeString, root}
-use Rattle·tree.specs.Entry.{entry}
-use Rattle·code.specs.Points.{depth}
-use Rattle·theory.specs.Items.{leaves}
-use Rattle·theory.specs.Fp.{sha, codewordOf, witnessRoot}
-use Rattle·agreement·specs.specs.Elements.{listed}
-use Rattle·agreement·specs.specs.Runs.{numbers-of}
-use Rattle·agreement·specs.specs.Codewords.{equation-0 as codeword-numbers, equation-1 as lent-codeword-numbers}
+use Rattle.std.specs.Prelude.{◌≡◌, refl, List, [], ◌∷◌, ℕ}
+use Rattle.std.proofs.Common.{sym, ◌∙◌, ap, ap₂}
+use Rattle.field.specs.BabyBear.{baby_bear, F, val, ofℕ}
+use Rattle.tree.specs.Merkle.{leaf_string, node_string, root}
+use Rattle.tree.specs.Entry.{entry}
+use Rattle.code.specs.Points.{depth}
+use Rattle.theory.specs.Items.{leaves}
+use Rattle.theory.specs.Fp.{sha, codeword_of, witness_root}
+use Rattle.agreement.specs.Elements.{listed}
+use Rattle.agreement.specs.Runs.{numbers-of}
+use Rattle.agreement.specs.Codewords.{equation-0 as codeword-numbers, equation-1 as lent-codeword-numbers}
 "
     .to_string()
         + USE_SHA_256;
@@ -140,9 +136,9 @@ use Rattle·agreement·specs.specs.Codewords.{equation-0 as codeword-numbers, eq
 }
 
 /// The definitions that a digest is computed by, and where they stand.
-const SHA_256: &str = "blockCount digest bytes hash pad words compress inBytes upTo K H₀ zeros padding scheduled schedule roundWith rounds sum ROTR Ch Maj Σ₀ Σ₁ σ₀ σ₁";
-pub const USE_SHA_256: &str = "use Rattle·hash.specs.Word.{ROTR, Ch, Maj, Σ₀, Σ₁, σ₀, σ₁}
-use Rattle·hash.specs.Sha256.{blockCount, digest, bytes, hash, pad, words, compress, inBytes, upTo, K, H₀, zeros, padding, scheduled, schedule, roundWith, rounds, sum}
+const SHA_256: &str = "block_count digest bytes hash pad words compress in_bytes up_to K H₀ zeros padding scheduled schedule round_with rounds sum ROTR Ch Maj Σ₀ Σ₁ σ₀ σ₁";
+pub const USE_SHA_256: &str = "use Rattle.hash.specs.Word.{ROTR, Ch, Maj, Σ₀, Σ₁, σ₀, σ₁}
+use Rattle.hash.specs.Sha256.{block_count, digest, bytes, hash, pad, words, compress, in_bytes, up_to, K, H₀, zeros, padding, scheduled, schedule, round_with, rounds, sum}
 ";
 
 /// The digest of a message, which is given as a term.
@@ -162,7 +158,7 @@ fn tree_digests(codeword: &[Element], equations: &mut Vec<Equation>) -> (sha256:
     for entry in code::entries(codeword) {
         let digest = tree::leaf(&entry);
         level.push((digest, format!("equation-{}", equations.len())));
-        equations.push(digest_of(format!("leafString {}", list(entry)), &digest));
+        equations.push(digest_of(format!("leaf_string {}", list(entry)), &digest));
     }
     while level.len() > 1 {
         let mut next = vec![];
@@ -170,8 +166,8 @@ fn tree_digests(codeword: &[Element], equations: &mut Vec<Equation>) -> (sha256:
             let [(left, left_path), (right, right_path)] = pair else { panic!() };
             let digest = tree::node(left, right);
             let joined = format!("equation-{}", equations.len());
-            equations.push(digest_of(format!("nodeString {} {}", list(left), list(right)), &digest));
-            next.push((digest, format!("(ap₂ {{C = List ℕ}} (λ (s t : List ℕ). digest (nodeString s t)) {left_path} {right_path} ∙ {joined})")));
+            equations.push(digest_of(format!("node_string {} {}", list(left), list(right)), &digest));
+            next.push((digest, format!("(ap₂ {{C = List ℕ}} (λ (s t : List ℕ). digest (node_string s t)) {left_path} {right_path} ∙ {joined})")));
         }
         level = next;
     }
@@ -185,23 +181,23 @@ fn digests_at(lent: &[u8], codeword_numbers: &str, equations: &mut Vec<Equation>
     let (root, path) = tree_digests(&codeword, equations);
     let (k, w, codeword) = (w.len(), format!("{} {}", list(lent), elements(&w)), elements(&codeword));
     equations.push(Equation {
-        left: format!("root digest (depth {k}) (leaves babyBear sha {codeword})"),
+        left: format!("root digest (depth {k}) (leaves baby_bear sha {codeword})"),
         right: list(root),
         unfolding: "root entry depth val ofℕ".to_string(),
         proof: path,
     });
     equations.push(Equation {
-        left: format!("codewordOf {k} {w}"),
+        left: format!("codeword_of {k} {w}"),
         right: codeword,
         unfolding: "val".to_string(),
-        proof: format!("sym (numbers-of (codewordOf {k} {w})) ∙ ap listed {codeword_numbers}"),
+        proof: format!("sym (numbers-of (codeword_of {k} {w})) ∙ ap listed {codeword_numbers}"),
     });
     equations.push(Equation {
-        left: format!("witnessRoot {k} {w}"),
+        left: format!("witness_root {k} {w}"),
         right: list(root),
         unfolding: "val".to_string(),
         proof: format!(
-            "ap (λ (vs : List F). root digest (depth {k}) (leaves babyBear sha vs)) equation-{} ∙ equation-{}",
+            "ap (λ (vs : List F). root digest (depth {k}) (leaves baby_bear sha vs)) equation-{} ∙ equation-{}",
             equations.len() - 1,
             equations.len() - 2
         ),

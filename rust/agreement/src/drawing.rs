@@ -11,9 +11,9 @@ const NAMES: [Name; 3] = [Name::DrawChallenge, Name::DrawPositions, Name::DrawR]
 /// The definition of a call, and its result's fields for the output buffers.
 fn definition(name: Name) -> (&'static str, &'static [&'static str]) {
     match name {
-        Name::DrawChallenge => ("drawChallenge", &["seed", "challenge"]),
-        Name::DrawPositions => ("drawPositions", &["positions"]),
-        Name::DrawR => ("drawR", &["r"]),
+        Name::DrawChallenge => ("draw_challenge", &["seed", "challenge"]),
+        Name::DrawPositions => ("draw_positions", &["positions"]),
+        Name::DrawR => ("draw_r", &["r"]),
         _ => unreachable!(),
     }
 }
@@ -28,7 +28,7 @@ fn answered(call: &Call) -> (u64, Equation) {
     let fields =
         outputs.iter().zip(&after.outputs).map(|(name, buffer)| format!("; {name} = {}", list(buffer)));
     let (left, right) = match answer {
-        0 => (format!("{name} {arguments} .answer"), "0".to_string()),
+        0 => (format!("({name} {arguments}).answer"), "0".to_string()),
         _ => (
             format!("{name} {arguments}"),
             format!("record {{ answer = {answer}{} }}", fields.collect::<String>()),
@@ -36,10 +36,10 @@ fn answered(call: &Call) -> (u64, Equation) {
     };
     let (unfolding, proof) = match (call.name, answer) {
         (Name::DrawPositions, _) | (_, 2 | 3) => (name, "refl".to_string()),
-        (_, 0) => ("babyBear val ofℕ", format!("λ i. {name}-runs {arguments} i .answer")),
-        _ => ("babyBear val ofℕ", format!("{name}-runs {arguments} ∙ refl")),
+        (_, 0) => ("baby_bear val ofℕ", format!("λ i. ({name}-runs {arguments} i).answer")),
+        _ => ("baby_bear val ofℕ", format!("{name}-runs {arguments} ∙ refl")),
     };
-    (answer, Equation { left, right, unfolding: format!("every allBelow numbers {unfolding}"), proof })
+    (answer, Equation { left, right, unfolding: format!("every all_below numbers {unfolding}"), proof })
 }
 
 /// A call that is accepted, with k = 2.
@@ -102,13 +102,13 @@ fn damaged(random: &mut Random, name: Name) -> Call {
 const EACH: usize = 6;
 
 const HEAD: &str = "-- What the calls that draw answer, and what their output buffers hold after a refusal.
-use mathlib.Core.Path.{_≡_, refl, _∙_}
-use mathlib.Core.List.{List, [], _∷_}
-use Rattle·field.specs.BabyBear.{babyBear, val, ofℕ}
-use Rattle·numbers.specs.Numbers.{numbers, allBelow}
-use Rattle·theory.specs.Checks.{every}
-use Rattle·draw.specs.Draw.{drawChallenge, drawPositions, drawR}
-use Rattle·agreement·specs.specs.Runs.{drawChallenge-runs, drawR-runs}
+use Rattle.std.specs.Prelude.{◌≡◌, refl, List, [], ◌∷◌}
+use Rattle.std.proofs.Common.{◌∙◌}
+use Rattle.field.specs.BabyBear.{baby_bear, val, ofℕ}
+use Rattle.numbers.specs.Numbers.{numbers, all_below}
+use Rattle.theory.specs.Checks.{every}
+use Rattle.draw.specs.Draw.{draw_challenge, draw_positions, draw_r}
+use Rattle.agreement.specs.Runs.{draw_challenge-runs, draw_r-runs}
 ";
 
 pub fn answers() -> File {

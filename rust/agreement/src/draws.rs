@@ -43,17 +43,17 @@ fn strings(random: &mut Random) -> Vec<Equation> {
         let items = Instance::random(random, m, n, 2, l).items;
         let quotient = random.elements(claims::quotient_count(m, l));
         let arguments = seed_arguments((m, n, k), &items, &quotient);
-        add(format!("seedMessage {arguments}"), draws::seed_message((m, n, k), &items, &quotient));
+        add(format!("seed_message {arguments}"), draws::seed_message((m, n, k), &items, &quotient));
     }
     for j in [0, 1, 5, 255] {
         let (seed, root, challenge) = (random.digest(), random.digest(), random.element());
-        add(format!("challengeMessage {}", list(seed)), draws::challenge_message(&seed));
+        add(format!("challenge_message {}", list(seed)), draws::challenge_message(&seed));
         for challenge in [challenge, Element::reduce(P as u64 - 1)] {
             let arguments = position_arguments(&seed, challenge, &root, j);
-            add(format!("positionMessage {arguments}"), draws::position_message(&seed, challenge, &root, j));
+            add(format!("position_message {arguments}"), draws::position_message(&seed, challenge, &root, j));
         }
         let x = random.inputs(1 + j % 4);
-        add(format!("rMessage {}", r_arguments(&root, &x, j)), draws::r_message(&root, &x, j));
+        add(format!("r_message {}", r_arguments(&root, &x, j)), draws::r_message(&root, &x, j));
     }
     equations
 }
@@ -110,30 +110,30 @@ fn challenges(worked: &mut Worked, random: &mut Random, l: usize) {
     let (sizes, quotient) = ((0, 1, 2), random.elements(l - 1));
     let arguments = seed_arguments(sizes, &items, &quotient);
     let digest =
-        worked.digest(format!("seedMessage {arguments}"), &draws::seed_message(sizes, &items, &quotient));
+        worked.digest(format!("seed_message {arguments}"), &draws::seed_message(sizes, &items, &quotient));
     let seed = draws::seed(sizes, &items, &quotient);
     worked.equations.push(Equation {
-        left: format!("seedOf {arguments}"),
+        left: format!("seed_of {arguments}"),
         right: list(seed),
-        unfolding: "seedOf".to_string(),
+        unfolding: "seed_of".to_string(),
         proof: digest,
     });
     let seed_is = worked.last();
 
-    let digest = worked.digest(format!("challengeMessage {}", list(seed)), &draws::challenge_message(&seed));
+    let digest = worked.digest(format!("challenge_message {}", list(seed)), &draws::challenge_message(&seed));
     let challenge_is = [1, 2, 3, 4, 5, 6, 7, 8].map(|l| {
         let challenge = draws::challenge(l, &seed).number();
         let remainder = format!("{l} + eight d % (p - {l})");
-        worked.drawn(format!("challengeOf {l} {}", list(seed)), challenge, remainder, &digest)
+        worked.drawn(format!("challenge_of {l} {}", list(seed)), challenge, remainder, &digest)
     });
     let arguments = format!("{arguments} {} {}", list(random.bytes(32)), list(random.bytes(4)));
     let challenge = list(element_bytes(&[draws::challenge(l, &seed)]));
     worked.equations.push(Equation {
-        left: format!("drawChallenge {arguments}"),
+        left: format!("draw_challenge {arguments}"),
         right: format!("record {{ answer = 0; seed = {}; challenge = {challenge} }}", list(seed)),
-        unfolding: format!("{TESTS} babyBear val ofℕ"),
+        unfolding: format!("{TESTS} baby_bear val ofℕ"),
         proof: format!(
-            "drawChallenge-runs {arguments} ∙ (λ i. record {{ answer = 0; seed = {seed_is} i; challenge = bytes4 ((ap (challengeOf {l}) {seed_is} ∙ {}) i) }})",
+            "draw_challenge-runs {arguments} ∙ (λ i. record {{ answer = 0; seed = {seed_is} i; challenge = bytes4 ((ap (challenge_of {l}) {seed_is} ∙ {}) i) }})",
             challenge_is[l - 1]
         ),
     });
@@ -146,10 +146,10 @@ fn positions(worked: &mut Worked, random: &mut Random) {
     for (j, drawn) in drawn.iter_mut().enumerate() {
         let arguments = position_arguments(&seed, challenge, &root, j);
         let message = draws::position_message(&seed, challenge, &root, j);
-        let digest = worked.digest(format!("positionMessage {arguments}"), &message);
+        let digest = worked.digest(format!("position_message {arguments}"), &message);
         for k in [2, 4, 8, 16, 32, 64] {
             let position = draws::position(k, &seed, challenge, &root, j);
-            let left = format!("positionOf {k} {arguments}");
+            let left = format!("position_of {k} {arguments}");
             let path = worked.drawn(left, position, format!("four d % (4 * {k})"), &digest);
             drawn.push((position, path));
         }
@@ -157,9 +157,9 @@ fn positions(worked: &mut Worked, random: &mut Random) {
     let [first, second] = drawn.map(|drawn| drawn[1].clone());
     let before = list(random.bytes(8));
     worked.equations.push(Equation {
-        left: format!("drawPositions 4 1 2 {} {} {} {before}", challenge.number(), list(seed), list(root)),
+        left: format!("draw_positions 4 1 2 {} {} {} {before}", challenge.number(), list(seed), list(root)),
         right: format!("record {{ answer = 0; positions = {} }}", list(bytes(&[first.0, second.0]))),
-        unfolding: format!("drawPositions {TESTS}"),
+        unfolding: format!("draw_positions {TESTS}"),
         proof: format!(
             "λ i. record {{ answer = 0; positions = bytes ({} i ∷ {} i ∷ []) }}",
             first.1, second.1
@@ -173,8 +173,8 @@ fn numbers_r(worked: &mut Worked, random: &mut Random) {
     let r = |j| draws::r(&root, &x, j);
     let path = [0, 1, 5].map(|j| {
         let arguments = r_arguments(&root, &x, j);
-        let digest = worked.digest(format!("rMessage {arguments}"), &draws::r_message(&root, &x, j));
-        worked.drawn(format!("rOf {arguments}"), r(j).number(), "eight d % p".to_string(), &digest)
+        let digest = worked.digest(format!("r_message {arguments}"), &draws::r_message(&root, &x, j));
+        worked.drawn(format!("r_of {arguments}"), r(j).number(), "eight d % p".to_string(), &digest)
     });
     for m in [0, 2] {
         let (root, x, before) = (list(root), list(element_bytes(&x)), list(random.bytes(4 * m)));
@@ -182,16 +182,16 @@ fn numbers_r(worked: &mut Worked, random: &mut Random) {
         let drawn: Vec<Element> = (0..m).map(r).collect();
         let paths: String = path[..m].iter().map(|path| format!("{path} i ∷ ")).collect();
         worked.equations.push(Equation {
-            left: format!("drawR {arguments}"),
+            left: format!("draw_r {arguments}"),
             right: format!("record {{ answer = 0; r = {} }}", list(element_bytes(&drawn))),
-            unfolding: format!("{TESTS} babyBear val ofℕ"),
-            proof: format!("drawR-runs {arguments} ∙ (λ i. record {{ answer = 0; r = bytes ({paths}[]) }})"),
+            unfolding: format!("{TESTS} baby_bear val ofℕ"),
+            proof: format!("draw_r-runs {arguments} ∙ (λ i. record {{ answer = 0; r = bytes ({paths}[]) }})"),
         });
     }
 }
 
 /// The definitions that the checks and the written numbers are computed by.
-const TESTS: &str = "every allBelow numbers bytes";
+const TESTS: &str = "every all_below numbers bytes";
 
 /// The digests that draws are worked out from, and the equations on draws.
 pub fn files() -> [File; 2] {
@@ -204,26 +204,24 @@ pub fn files() -> [File; 2] {
     numbers_r(&mut worked, random);
 
     let head = "-- The digests of strings that draws hash.
-use mathlib.Core.Path.{_≡_, refl}
-use mathlib.Core.List.{List, [], _∷_}
-use Rattle·draw.specs.Draw.{seedMessage, challengeMessage, positionMessage, rMessage}
+use Rattle.std.specs.Prelude.{◌≡◌, refl, List, [], ◌∷◌}
+use Rattle.draw.specs.Draw.{seed_message, challenge_message, position_message, r_message}
 ";
     let digests =
         File { name: "DrawnDigests", head: head.to_string() + USE_SHA_256, equations: worked.digests };
     let names: Vec<String> =
         (0..digests.equations.len()).map(|i| format!("equation-{i} as digest-{i}")).collect();
     let head = "-- Draws: what is hashed, and what is drawn.
-use mathlib.Core.Path.{_≡_, refl, _∙_, ap}
-use mathlib.Core.List.{List, [], _∷_}
-use Prim.Native.Nat.{ℕ, _+_, _-_, _*_, _%_}
-use Rattle·field.specs.BabyBear.{babyBear, p, val, ofℕ}
-use Rattle·numbers.specs.Numbers.{numbers, allBelow, bytes4, bytes}
-use Rattle·theory.specs.Checks.{every}
-use Rattle·draw.specs.Draw.{seedMessage, challengeMessage, positionMessage, rMessage, four, eight}
-use Rattle·draw.specs.Draw.{seedOf, challengeOf, positionOf, rOf, drawChallenge, drawPositions, drawR}
-use Rattle·agreement·specs.specs.Runs.{drawChallenge-runs, drawR-runs}
+use Rattle.std.specs.Prelude.{◌≡◌, refl, List, [], ◌∷◌, ℕ, ◌+◌, ◌-◌, ◌*◌, ◌%◌}
+use Rattle.std.proofs.Common.{◌∙◌, ap}
+use Rattle.field.specs.BabyBear.{baby_bear, p, val, ofℕ}
+use Rattle.numbers.specs.Numbers.{numbers, all_below, bytes4, bytes}
+use Rattle.theory.specs.Checks.{every}
+use Rattle.draw.specs.Draw.{seed_message, challenge_message, position_message, r_message, four, eight}
+use Rattle.draw.specs.Draw.{seed_of, challenge_of, position_of, r_of, draw_challenge, draw_positions, draw_r}
+use Rattle.agreement.specs.Runs.{draw_challenge-runs, draw_r-runs}
 "
     .to_string()
-        + &format!("use Rattle·agreement·specs.specs.DrawnDigests.{{{}}}\n", names.join(", "));
+        + &format!("use Rattle.agreement.specs.DrawnDigests.{{{}}}\n", names.join(", "));
     [digests, File { name: "Draws", head, equations: worked.equations }]
 }

@@ -17,7 +17,7 @@ pub struct Known {
 pub fn difference(i: usize, j: usize) -> Known {
     Known {
         name: format!("inverse-{i}-{j}"),
-        of: format!("node babyBear {i} ⊖ node babyBear {j}"),
+        of: format!("node baby_bear {i} ⊖ node baby_bear {j}"),
         before: i as u64 + (-number(j)).number() as u64,
         inverse: (number(i) - number(j)).inverse(),
     }
@@ -27,7 +27,7 @@ pub fn difference(i: usize, j: usize) -> Known {
 pub fn vanishing(l: usize, a: usize) -> Known {
     Known {
         name: format!("vanishing-inverse-{l}-{a}"),
-        of: format!("Z babyBear {l} (node babyBear {a})"),
+        of: format!("Z baby_bear {l} (node baby_bear {a})"),
         before: (0..l).map(|i| (a - i) as u64).product(),
         inverse: claims::vanishing(l).at(number(a)).inverse(),
     }
@@ -41,17 +41,17 @@ pub fn known_inverses() -> Vec<Known> {
 
 pub fn inverses() -> String {
     let mut text = "-- Inverses of differences of small numbers, and of Z beside the nodes. Each is known by its product.
-use mathlib.Core.Path.{_≡_, refl}
-use Rattle·algebra.proofs.FieldLaws.{inv-unique}
-use Rattle·field.specs.BabyBear.{babyBear, inv, val, ofℕ, _⊖_}
-use Rattle·field.proofs.Laws.{val-inj}
-use Rattle·theory.specs.Combination.{node, Z}
+use Rattle.std.specs.Prelude.{◌≡◌, refl}
+use Rattle.algebra.proofs.FieldLaws.{inv_unique}
+use Rattle.field.specs.BabyBear.{baby_bear, inv, val, ofℕ, ◌⊖◌}
+use Rattle.field.proofs.Laws.{val_inj}
+use Rattle.theory.specs.Combination.{node, Z}
 "
     .to_string();
     for Known { name, of, inverse, .. } in known_inverses() {
         let inverse = inverse.number();
         text += &format!(
-            "\npub {name} : inv ({of}) ≡ ofℕ {inverse}\n{name} = inv-unique babyBear ({of}) (ofℕ {inverse}) (val-inj _ _ (unfold babyBear val ofℕ in refl))\n"
+            "\npub {name} : inv ({of}) ≡ ofℕ {inverse}\n{name} = inv_unique baby_bear ({of}) (ofℕ {inverse}) (val_inj _ _ (unfold baby_bear val ofℕ in refl))\n"
         );
     }
     text
@@ -60,7 +60,7 @@ use Rattle·theory.specs.Combination.{node, Z}
 /// The proof that rewrites with the known inverses and computes the rest. The prover takes two inverses for one where the
 /// numbers under them are one before their remainder is taken: of such only the first is named.
 pub fn computed(inverses: Vec<Known>) -> String {
-    let compute = "unfold babyBear val ofℕ in refl";
+    let compute = "unfold baby_bear val ofℕ in refl";
     let mut names: Vec<String> = vec![];
     let mut seen: Vec<u64> = vec![];
     for known in inverses {

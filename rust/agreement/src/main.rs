@@ -54,7 +54,7 @@ fn write_common(folder: &Path) -> io::Result<Vec<&'static str>> {
     fs::create_dir_all(folder.join("specs"))?;
     fs::write(
         folder.join("src/lib.rt"),
-        "// Equations between definitions and numbers, each checked by computation.\n",
+        "// Equations between definitions and numbers, each checked by computation.\n#![tactic(auto)]\n",
     )?;
     fs::write(folder.join("specs/Elements.antt"), include_str!("../Elements.antt.in"))?;
     fs::write(folder.join("specs/Runs.antt"), include_str!("../Runs.antt.in"))?;

@@ -37,7 +37,7 @@ pub fn link() -> Result<(), String> {
         format!(
             "The Lomvuze library is not found. Any one of these helps:
 - LOMVUZE_STATICLIB names, by its full path, the folder with libverdicts.a in it. It is not set.
-- `make` or `rt staticlib verdicts`, in a checkout, writes target/staticlib/libverdicts.a there. None is in {}
+- `make`, in a checkout, writes target/staticlib/libverdicts.a there. None is in {}
 - `make install PREFIX=FOLDER` installs it, and PKG_CONFIG_PATH=FOLDER/lib/pkgconfig has pkg-config find it. It says:
 {why}",
             checkout.canonicalize().unwrap_or(checkout).display()

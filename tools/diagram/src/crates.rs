@@ -27,7 +27,7 @@ pub fn text(path: &Path) -> Result<String, String> {
 }
 
 fn is_comment(line: &str) -> bool {
-    line.trim().is_empty() || line.starts_with("//")
+    line.trim().is_empty() || line.starts_with("//") || line.starts_with("#![")
 }
 
 /// The kind of a crate, by its source files.

@@ -12,14 +12,15 @@ pub struct Graph {
 }
 
 impl Graph {
-    /// Reads lines `NAME: NAME NAME ..`, in which '#' starts a comment. A name without a line of its own is left out.
+    /// Reads lines `NAME: NAME NAME ..` and `NAME staticlib: ..`, in which '#' starts a comment. A name without a line of its own is left out.
     pub fn read(text: &str) -> Result<Graph, String> {
         let lines =
             text.lines().map(|line| line.split('#').next().unwrap().trim()).filter(|line| !line.is_empty());
         let parts: Vec<(&str, &str)> = lines
             .map(|line| line.split_once(':').ok_or(format!("no ':' in '{line}'")))
             .collect::<Result<_, _>>()?;
-        let names: Vec<String> = parts.iter().map(|(name, _)| name.trim().to_string()).collect();
+        let names: Vec<String> =
+            parts.iter().filter_map(|(name, _)| name.split_whitespace().next()).map(str::to_string).collect();
         let place = |name: &str| names.iter().position(|known| known == name);
         let below: Vec<Vec<usize>> =
             parts.iter().map(|(_, list)| list.split_whitespace().filter_map(place).collect()).collect();
@@ -131,7 +132,7 @@ mod tests {
 
     #[test]
     fn reads() {
-        let graph = graph("# crates\na:\nb: a io # on a\n\nc: b a\n");
+        let graph = graph("# crates\na:\nb: a io # on a\n\nc staticlib: b a\n");
         assert_eq!(
             (graph.names, graph.below),
             (vec!["a".into(), "b".into(), "c".into()], vec![vec![], vec![0], vec![1, 0]])

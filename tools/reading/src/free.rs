@@ -64,7 +64,7 @@ impl<'a> Walk<'a> {
             && !word.starts_with('.')
             && !word.starts_with(|c: char| c.is_ascii_digit());
         let word = words::used_form(word);
-        if named && !self.is_bound(&word) {
+        if named && !self.is_bound(words::head(&word)) {
             self.free.push(word);
         }
     }
@@ -152,11 +152,11 @@ impl<'a> Walk<'a> {
     pub fn module(&mut self, part: &Part) {
         for line in &part.lines {
             let text = words::of_line(line);
-            let using = text.iter().position(|word| word == "using").unwrap_or(text.len());
-            self.walk(&text[usize::from(text[0] == "open")..using]);
-            let brought = text[using..].split(|word| words::is_bracket(word));
+            let at = text.iter().position(|word| word == "use").unwrap_or(text.len());
+            self.walk(&text[usize::from(text[0] == "open")..at]);
+            let brought = text[at..].split(|word| words::is_bracket(word));
             let names: Vec<String> = brought
-                .filter(|name| name.first().is_some_and(|word| word != "using"))
+                .filter(|name| name.first().is_some_and(|word| word != "use"))
                 .filter_map(|name| name.last().cloned())
                 .collect();
             self.bind(&names);
@@ -225,15 +225,15 @@ mod tests {
 
     #[test]
     fn parameters_patterns_and_lambdas_bind() {
-        let text = "module _ (I : Instance) where\n  open Instance I using (field as F, hash)\n\n  unfoldable pub f : ℕ → List F\n  \
+        let text = "module _ (I : Instance) where\n  open I use {field as F, hash}\n\n  unfoldable pub f : ℕ → List F\n  \
                     f zero = code\n  f (suc code) = map (λ at. hash at code) (at code)\n";
-        assert_eq!(free_in(text), ["Instance", "Instance", "ℕ", "List", "zero", "code", "suc", "map", "at"]);
+        assert_eq!(free_in(text), ["Instance", "ℕ", "List", "zero", "code", "suc", "map", "at"]);
     }
 
     #[test]
     fn a_field_binds_in_those_behind_it() {
         let text =
-            "pub record R (m : ℕ) : Type 0 where\n  pub size : ℕ\n  pub fits : (i : ℕ) → i < size → P m i\n";
-        assert_eq!(free_in(text), ["ℕ", "Type", "ℕ", "ℕ", "<", "P"]);
+            "pub record R (m : ℕ) : Type 0 where\n  pub size : ℕ\n  pub fits : (i : ℕ) → i < size.low → P m Q.it i\n";
+        assert_eq!(free_in(text), ["ℕ", "Type", "ℕ", "ℕ", "<", "P", "Q.it"]);
     }
 }

@@ -59,7 +59,7 @@ const THEOREMS: [(&str, &str); 34] = [
 /// The instance that the calls and both theorems are about.
 const INSTANCE: (&str, &str) = ("theory/specs/Fp", "fp");
 /// The files that export calls.
-const EXPORTS: [&str; 2] = ["verdicts/src/lib", "verdicts/src/drawing"];
+const EXPORTS: [&str; 2] = ["verdicts_c/src/lib", "verdicts_c/src/drawing"];
 
 const USAGE: &str =
     "usage: lomvuze-reading list REPOSITORY\n       lomvuze-reading index REPOSITORY CHECKSUM";

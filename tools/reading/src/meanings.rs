@@ -3,27 +3,27 @@
 use crate::words;
 use std::collections::BTreeSet;
 
-/// What the names of the toolchain's libraries mean.
+/// What the names of the toolchain's libraries mean, for each group of libraries that pass the same names on.
 pub struct Meanings {
-    libraries: Vec<(String, Vec<(String, String)>)>,
+    groups: Vec<(Vec<String>, Vec<(String, String)>)>,
 }
 
 impl Meanings {
-    /// Reads `[LIBRARY]` and below it lines `NAME meaning`; the name `others` stands for all others of the library.
+    /// Reads `[LIBRARY, LIBRARY ..]` and below it lines `NAME meaning`; the name `others` stands for all others of these libraries.
     pub fn read(text: &str) -> Result<Self, String> {
-        let mut libraries: Vec<(String, Vec<(String, String)>)> = vec![];
+        let mut groups: Vec<(Vec<String>, Vec<(String, String)>)> = vec![];
         for line in text.lines().filter(|line| !line.starts_with('#') && !line.trim().is_empty()) {
             if let Some(library) =
                 line.strip_prefix('[').and_then(|rest| rest.strip_suffix(']')).filter(|name| !name.is_empty())
             {
-                libraries.push((library.to_string(), vec![]));
+                groups.push((library.split(", ").map(str::to_string).collect(), vec![]));
             } else {
                 let (name, meaning) = line.split_once(' ').ok_or(format!("{line}: no meaning"))?;
-                let names = &mut libraries.last_mut().ok_or("the first line names no library")?.1;
+                let names = &mut groups.last_mut().ok_or("the first line names no library")?.1;
                 names.push((name.to_string(), meaning.trim().to_string()));
             }
         }
-        Ok(Meanings { libraries })
+        Ok(Meanings { groups })
     }
 
     /// A row for each meaning. Each name that is reached has one, and each meaning has a name that is reached.
@@ -31,20 +31,21 @@ impl Meanings {
         let mut rows = vec![];
         let mut left: BTreeSet<(String, String)> =
             reached.iter().map(|(library, name)| (library.clone(), words::used_form(name))).collect();
-        for (library, names) in &self.libraries {
+        for (libraries, names) in &self.groups {
             for (name, meaning) in names {
                 let all = name == "others";
                 let found: Vec<(String, String)> = left
                     .iter()
-                    .filter(|known| known.0 == *library && (all || known.1 == *name))
+                    .filter(|known| libraries.contains(&known.0) && (all || known.1 == *name))
                     .cloned()
                     .collect();
                 if found.is_empty() {
-                    return Err(format!("tools/reading/words.txt: nothing uses {name} of {library}"));
+                    return Err(format!("tools/reading/words.txt: nothing uses {name} of {}", libraries[0]));
                 }
+                let names: BTreeSet<&String> = found.iter().map(|known| &known.1).collect();
                 let shown: Vec<String> =
-                    found.iter().map(|known| format!("`{}`", known.1.replace('|', "\\|"))).collect();
-                rows.push(format!("| {library} | {} | {meaning} |", shown.join(", ")));
+                    names.iter().map(|known| format!("`{}`", known.replace('|', "\\|"))).collect();
+                rows.push(format!("| {} | {} | {meaning} |", libraries[0], shown.join(", ")));
                 left.retain(|known| !found.contains(known));
             }
         }

@@ -107,6 +107,7 @@ impl<'a> Reader<'a> {
         let constructor = |word: &str| world.is_constructor(key, word);
         let mut walk = Walk::new(&constructor);
         walk.bind(&function.parameters);
+        walk.bind(&["result".to_string()]);
         for clause in function.contract() {
             walk.walk(&clause);
         }

@@ -38,12 +38,14 @@ pub fn of_lines(lines: &[String]) -> Vec<String> {
     lines.iter().flat_map(|line| of_line(line)).collect()
 }
 
-/// A name as it is used: an operator is declared with a `_` for each argument.
+/// A name as it is used: an operator is declared with a `◌` for each argument.
 pub fn used_form(name: &str) -> String {
-    match name.contains('_') && name != "_" {
-        true => name.replace('_', ""),
-        false => name.to_string(),
-    }
+    name.replace('◌', "")
+}
+
+/// What a word names, without the fields that are read of it: `v` of `v.items.length`.
+pub fn head(word: &str) -> &str {
+    word.split_once('.').map_or(word, |(head, _)| head)
 }
 
 pub fn is_bracket(word: &str) -> bool {
@@ -72,6 +74,7 @@ mod tests {
     fn words_stand_alone() {
         let line = "  f (x ∷ []) {A} = g x, y -- h";
         assert_eq!(of_line(line), ["f", "(", "x", "∷", "[]", ")", "{", "A", "}", "=", "g", "x", ",", "y"]);
-        assert_eq!(used_form("_⊕_"), "⊕");
+        assert_eq!(used_form("◌⊕◌"), "⊕");
+        assert_eq!((head("v.items.length"), head("v")), ("v", "v"));
     }
 }

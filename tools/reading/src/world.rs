@@ -54,16 +54,15 @@ impl World {
     /// The file and the name that a module's path and a name in it stand for.
     fn of_path(&self, path: &str, name: &str) -> Target {
         let library = || Target::Library(path.to_string(), name.to_string());
-        let Some(rest) = path.strip_prefix("Rattle·") else { return library() };
+        let Some(rest) = path.strip_prefix("Rattle.") else { return library() };
         let mut steps = rest.split('.');
-        let first = steps.next().unwrap_or_default();
-        let crate_name = first.split('·').next().unwrap_or_default();
+        let crate_name = steps.next().unwrap_or_default();
         let steps: Vec<&str> = steps.collect();
         if !self.root.join("crates").join(crate_name).is_dir() {
             return library();
         }
         match steps.as_slice() {
-            [_, "declared", modules @ .., _, "the-variants"] => Target::Declared(
+            [_, "declared", modules @ .., _, "TheVariants"] => Target::Declared(
                 format!("{crate_name}/src/{}", modules.join("/")),
                 steps[steps.len() - 2].into(),
             ),
@@ -76,20 +75,20 @@ impl World {
 
     /// What a word of a file stands for.
     pub fn resolve(&self, key: &str, word: &str) -> Result<Target, String> {
-        if word.starts_with("Rattle·") {
+        if word.starts_with("Rattle.") {
             let (path, name) = word.rsplit_once('.').ok_or(format!("{key}: {word}"))?;
             return Ok(self.of_path(path, name));
         }
         let file = self.file(key)?;
-        let named = |name: &str| words::used_form(name) == word;
         if let Some((alias, name)) =
             word.split_once('.').filter(|(alias, name)| !alias.is_empty() && !name.is_empty())
         {
-            let import = file.imports.iter().find(|import| import.alias.as_deref() == Some(alias));
-            return import
-                .map(|import| self.of_path(&import.path, name))
-                .ok_or(format!("{key}: {word} is unknown"));
+            if let Some(import) = file.imports.iter().find(|import| import.alias.as_deref() == Some(alias)) {
+                return Ok(self.of_path(&import.path, name));
+            }
         }
+        let (whole, word) = (word, words::head(word));
+        let named = |name: &str| words::used_form(name) == word;
         if let Some(name) = file.parts.iter().filter_map(|part| part.name()).find(|name| named(name)) {
             return Ok(Target::Declared(key.into(), name.into()));
         }
@@ -100,7 +99,7 @@ impl World {
         }
         match LANGUAGE_NAMES.contains(&word) {
             true => Ok(Target::Library(LANGUAGE.into(), word.into())),
-            false => Err(format!("{key}: {word} is unknown")),
+            false => Err(format!("{key}: {whole} is unknown")),
         }
     }
 
