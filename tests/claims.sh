@@ -69,6 +69,17 @@ timeout 10 "$claims" <$sheet >&- && status=0 || status=$?
 [ "$status" != 124 ] || fail 'a closed output does not end the program'
 passed=$((passed + 2))
 
+# A read or a write that fails ends the program with status 1 and what failed, and no listing.
+ends() { # ends WHAT TEXT: the last run ended so
+    [ "$status" = 1 ] && [ ! -s "$folder/out" ] && grep -q "$2" "$folder/error" || fail "$1: status $status, output: $(cat "$folder/out" "$folder/error")"
+    passed=$((passed + 1))
+}
+"$claims" <examples >"$folder/out" 2>"$folder/error" && status=0 || status=$?
+ends 'a folder as standard input' IsADirectory
+: >"$folder/out"
+"$claims" <$sheet >/dev/full 2>"$folder/error" && status=0 || status=$?
+ends 'a full disk' StorageFull
+
 # The sheets with faults that cannot be seen, repaired as docs/SHEETS.md says, are the good one.
 rooted=examples/sheets/rooted.sheet
 tr -d '\r' <examples/sheets/crlf.sheet | cmp - $rooted

@@ -5,7 +5,7 @@ usage: python3 tools/respell.py [--docs] [FOLDER]     FOLDER is a checkout's top
 
 A name is read part by part, between dashes: camel case becomes snake case (length-readItems is length-read_items), and getD is
 get_or, as in the library. It rewrites specs/, proofs/, src/ and must-fail/ of every crate; with --docs the pages that name
-definitions. Run it once; a second run changes nothing.
+definitions. Where no name of the crates has the older spelling, it changes nothing.
 """
 
 import os
@@ -96,6 +96,9 @@ def main(argv):
     top = rest[0] if rest else "."
     crates = os.path.join(top, "crates")
     known = names_of(crates)
+    if not known:
+        print("no name has the older spelling: nothing to do")
+        return
     changed = 0
     for p in files(crates):
         if p.endswith((".antt", ".rt", ".edit")):
