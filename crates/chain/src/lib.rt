@@ -8,12 +8,15 @@ ghost use Rattle.code.specs.Points.{depth};
 ghost use Rattle.theory.specs.Checks.{written};
 ghost use Rattle.theory.specs.Statements.{Honest, PermittedChallenge, PermittedPositions};
 ghost use Rattle.theory.specs.Fp.{fp, in_order, interleave_fits, fold_outputs_fit, verify, decide};
+ghost use Rattle.checks.specs.Refusals.{answer_of};
 ghost use Rattle.chain.specs.Answers.{first_of, first_refusal};
 ghost use Rattle.chain.specs.Chained.{opened_size, open_into, chain};
 
 mod opening;
 
-// Opens each witness into its part of opened and, where every call answers 0, interleaves the openings.
+use checks::refusal::{Refusal, ensure};
+
+// Opens each witness into its part of opened and, where nothing is refused, interleaves the openings.
 fn show(
     k: u32,
     l: u32,
@@ -24,19 +27,16 @@ fn show(
     positions: &[u8],
     opened: &mut [u8],
     openings: &mut [u8],
-) -> u32
+) -> Result<(), Refusal>
     requires { (length wits.now ≡ l * (4 * k)) × (interleave_fits k l t opened.old openings.old ≡ true) }
-    ensures value { result ≡ first_refusal (build (suc l) (λ i. (open_into k t l (opened_size k t) points.now wits.now wit.now positions.now opened.old i).answer)) }
+    ensures value { answer_of result ≡ first_refusal (build (suc l) (λ i. (open_into k t l (opened_size k t) points.now wits.now wit.now positions.now opened.old i).answer)) }
     ensures opened_after { opened.new ≡ concat_to (suc l) (λ i. (open_into k t l (opened_size k t) points.now wits.now wit.now positions.now opened.old i).openings) }
-    ensures openings_after { openings.new ≡ written result (in_order (depth k) t l (λ i. (open_into k t l (opened_size k t) points.now wits.now wit.now positions.now opened.old i).openings)) openings.old }
+    ensures openings_after { openings.new ≡ written (answer_of result) (in_order (depth k) t l (λ i. (open_into k t l (opened_size k t) points.now wits.now wit.now positions.now opened.old i).openings)) openings.old }
 {
     let width = t as usize * encoder::open::opening_size(k as usize);
-    let answer = opening::open_all(
+    opening::open_all(
         k, l as usize, t, points, wits, wit, positions, opened, width,
-    );
-    if answer != 0 {
-        return answer;
-    }
+    )?;
     verdicts::lomvuze_interleave(k, l, t, opened, openings)
 }
 
@@ -58,20 +58,17 @@ fn verify_and_decide(
     item: &[u8],
     wit: &[u8],
     openings: &[u8],
-) -> u32
-    ensures { result ≡ first_of (verify m n k l t challenge items.now positions.now quotient.now item.now openings.now).verdict (decide m n k points.now a.now b.now c.now item.now wit.now) }
+) -> Result<(), Refusal>
+    ensures { answer_of result ≡ first_of (verify m n k l t challenge items.now positions.now quotient.now item.now openings.now).verdict (decide m n k points.now a.now b.now c.now item.now wit.now) }
 {
-    let answer = verdicts::lomvuze_verify(
+    let verified = verdicts::lomvuze_verify(
         m, n, k, l, t, challenge, items, positions, quotient, item, openings,
     );
-    let verdict = (answer % 64) as u32;
-    if verdict != 0 {
-        return verdict;
-    }
+    verified.verdict?;
     verdicts::lomvuze_decide(m, n, k, points, a, b, c, item, wit)
 }
 
-// Folds the items, opens every witness, verifies and decides: the first answer that is not 0, or 0.
+// Folds the items, opens every witness, verifies and decides: the first refusal, if there is one.
 pub fn chain(
     m: u32,
     n: u32,
@@ -91,28 +88,23 @@ pub fn chain(
     wit: &mut [u8],
     opened: &mut [u8],
     openings: &mut [u8],
-) -> u32
-    ensures honest { Honest fp m n k l points.now a.now b.now c.now items.now wits.now → PermittedChallenge fp l challenge → PermittedPositions k t positions.now → fold_outputs_fit m n k l quotient.old item.old wit.old ≡ true → interleave_fits k l t opened.old openings.old ≡ true → result ≡ 0 }
-    ensures answer { result ≡ (chain m n k l t challenge points.now a.now b.now c.now items.now wits.now positions.now quotient.old item.old wit.old opened.old openings.old).answer }
+) -> Result<(), Refusal>
+    ensures honest { Honest fp m n k l points.now a.now b.now c.now items.now wits.now → PermittedChallenge fp l challenge → PermittedPositions k t positions.now → fold_outputs_fit m n k l quotient.old item.old wit.old ≡ true → interleave_fits k l t opened.old openings.old ≡ true → result ≡ Ok tt }
+    ensures answer { answer_of result ≡ (chain m n k l t challenge points.now a.now b.now c.now items.now wits.now positions.now quotient.old item.old wit.old opened.old openings.old).answer }
     ensures quotient { quotient.new ≡ (chain m n k l t challenge points.now a.now b.now c.now items.now wits.now positions.now quotient.old item.old wit.old opened.old openings.old).quotient }
     ensures item { item.new ≡ (chain m n k l t challenge points.now a.now b.now c.now items.now wits.now positions.now quotient.old item.old wit.old opened.old openings.old).item }
     ensures wit { wit.new ≡ (chain m n k l t challenge points.now a.now b.now c.now items.now wits.now positions.now quotient.old item.old wit.old opened.old openings.old).wit }
     ensures opened { opened.new ≡ (chain m n k l t challenge points.now a.now b.now c.now items.now wits.now positions.now quotient.old item.old wit.old opened.old openings.old).opened }
     ensures openings { openings.new ≡ (chain m n k l t challenge points.now a.now b.now c.now items.now wits.now positions.now quotient.old item.old wit.old opened.old openings.old).openings }
 {
-    if !encoder::interleave::fits(k, l, t, opened, openings) {
-        return 2;
-    }
-    let folded = verdicts::lomvuze_fold(
+    ensure(
+        encoder::interleave::fits(k, l, t, opened, openings),
+        Refusal::Sizes,
+    )?;
+    verdicts::lomvuze_fold(
         m, n, k, l, challenge, points, a, b, c, items, wits, quotient, item, wit,
-    );
-    if folded != 0 {
-        return folded;
-    }
-    let shown = show(k, l, t, points, wits, wit, positions, opened, openings);
-    if shown != 0 {
-        return shown;
-    }
+    )?;
+    show(k, l, t, points, wits, wit, positions, opened, openings)?;
     verify_and_decide(
         m, n, k, l, t, challenge, points, a, b, c, items, positions, quotient, item, wit, openings,
     )

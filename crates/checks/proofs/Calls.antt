@@ -1,10 +1,16 @@
 -- Checks one after the other, and what a refusal leaves in a buffer. r is what the code's test of a check gave.
 use mathlib.Core.Path.{◌≡◌, refl, sym, ap, ◌∙◌}
-use mathlib.Core.Bool.{Bool, true, false, ◌&&◌}
+use mathlib.Core.Bool.{Bool, true, false, cond, ◌&&◌}
 use mathlib.Core.List.{List}
 use Prim.Native.Nat.{ℕ, zero, suc}
+use native.Mathlib.Omega.{arith}
+use Rattle.std.specs.Prelude.{Option, Some, None, Result, Ok, Err}
+use Rattle.std.specs.Option.{ok_or}
 use Rattle.theory.specs.Checks.{answer_if, written}
 use Rattle.theory.proofs.CheckLaws.{written-accepted}
+use Rattle.checks.specs.declared.refusal.Refusal.{Refusal}
+use Rattle.checks.specs.declared.refusal.Refusal.TheVariants.{Lines, Sizes, Numbers, Entries, Challenge, Positions, NewItem, Openings, Values, Roots, Claims, Points, LeadingOne}
+use Rattle.checks.specs.Refusals.{number_of}
 
 -- ---- answers
 
@@ -45,3 +51,47 @@ and-fails {a} b h = sym (ap (λ (t : Bool). t && b) h)
 
 pub and-passes : {a b r : Bool} → a ≡ true → r ≡ b → r ≡ (a && b)
 and-passes {a} {b} {r} h e = e ∙ sym (ap (λ (t : Bool). t && b) h)
+
+-- ---- verdicts
+
+-- What `ensure` gives, and what a refusal or an acceptance then says of the check.
+abbrev pub ensured : Bool → Refusal → Result (Unit {0}) Refusal
+ensured b s = cond b (Ok tt) (Err s)
+
+pub check-failed : (b : Bool) (e s : Refusal) → Err e ≡ ensured b s → (b ≡ false) × (s ≡ e)
+check-failed true e s h = cc
+check-failed false e s h = (refl, cc)
+
+pub check-passed : (b : Bool) (u : Unit {0}) (s : Refusal) → Ok u ≡ ensured b s → b ≡ true
+check-passed true u s h = refl
+check-passed false u s h = cc
+
+-- A refusal's number is not 0.
+pub some-number : (e : Refusal) → number_of e ≡ 0 → ⊥
+some-number e = elim e as (λ r. number_of r ≡ 0 → ⊥) [
+  | Lines ↦ λ h. omega arith
+  | Sizes ↦ λ h. omega arith
+  | Numbers ↦ λ h. omega arith
+  | Entries ↦ λ h. omega arith
+  | Challenge ↦ λ h. omega arith
+  | Positions ↦ λ h. omega arith
+  | NewItem ↦ λ h. omega arith
+  | Openings ↦ λ h. omega arith
+  | Values ↦ λ h. omega arith
+  | Roots ↦ λ h. omega arith
+  | Claims ↦ λ h. omega arith
+  | Points ↦ λ h. omega arith
+  | LeadingOne ↦ λ h. omega arith
+]
+
+-- So a refusal leaves what was there, and an acceptance writes the result.
+pub refuses : (e : Refusal) {a : ℕ} (result held : List ℕ) → number_of e ≡ a → held ≡ written a result held
+refuses e result held h = refused result held h (some-number e)
+
+pub accepts : {a : ℕ} {x result : List ℕ} (held : List ℕ) → 0 ≡ a → x ≡ result → x ≡ written a result held
+accepts held h k = accepted held h refl k
+
+-- What `ok_or` refuses with.
+pub refused-with : {A : Type 0} (o : Option A) (e s : Refusal) → Err e ≡ ok_or o s → number_of e ≡ number_of s
+refused-with None e s h = ap number_of cc
+refused-with (Some x) e s h = absurd cc

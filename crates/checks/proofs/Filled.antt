@@ -1,9 +1,9 @@
 -- Buffers and arrays that are filled from the front: what was written and, behind it, what fills the rest.
 use mathlib.Core.Path.{◌≡◌, refl, ap, ap₂, ◌∙◌}
 use mathlib.Core.List.{List, [], ◌∷◌, ◌++◌, append-nil}
-use Prim.Native.Nat.{ℕ, ◌+◌, ◌-◌, ◌*◌, ◌≤◌}
+use Prim.Native.Nat.{ℕ, ◌+◌, ◌-◌, ◌≤◌}
 use native.Mathlib.Omega.{arith}
-use lib.ListN.{length, take, drop, set, length-append, length-take, length-drop, length-set}
+use lib.ListN.{length, take, drop, set, length-drop}
 use lib.Seq.{take_at, drop-length}
 
 -- Nothing lies behind the end.
@@ -18,11 +18,6 @@ pub refilled-is : {a : ℕ} (front rest ys : List ℕ) → length front ≡ a �
 refilled-is {a} front rest ys e =
     ap₂ ◌++◌ (take_at front rest a e) (ap (λ (t : List ℕ). ys ++ t) (drop_past (drop a (front ++ rest)) (length-drop a (front ++ rest))) ∙ append-nil ys)
 
--- ys in the place of the n bytes behind the front, where there are no more.
-pub rest-written : {a n : ℕ} (front rest ys : List ℕ) → length front ≡ a → length rest ≡ n → take a (front ++ rest) ++ ys ++ drop (a + n) (front ++ rest) ≡ front ++ ys
-rest-written {a} {n} front rest ys e h =
-    ap₂ ◌++◌ (ap (λ (t : List ℕ). t ++ ys) (take_at front rest a e)) (drop_past (front ++ rest) (length-append front rest ∙ ap₂ ◌+◌ e h)) ∙ append-nil (front ++ ys)
-
 -- ---- e first, then rs and then xs
 
 -- The array s after e and rs were written.
@@ -33,27 +28,8 @@ headed-is : (e m : ℕ) (s rs : List ℕ) → 1 ≤ length s → headed e m s rs
 headed-is e m [] rs h = absurd (omega arith)
 headed-is e m (v ∷ t) rs h = refl
 
-pub first-room : (e m : ℕ) (s : List ℕ) → 1 + m ≤ length s → 1 + m ≤ length (set s 0 e)
-first-room e m s room = rw (length-set s 0 e) room
-
 module _ (e m : ℕ) (s rs : List ℕ) (long : length rs ≡ m) (room : 1 + m ≤ length s) where
-  headed-length : length (headed e m s rs) ≡ length s
-  headed-length =
-      ap length (headed-is e m s rs (omega arith))
-      ∙ omega (arith, length-append rs (drop (1 + m - 1) (drop 1 s)), length-drop (1 + m - 1) (drop 1 s), length-drop 1 s)
-
-  pub headed-room : 1 + m ≤ length (headed e m s rs)
-  headed-room = omega (arith, headed-length)
-
-  -- What is left for a buffer of n bytes.
-  pub headed-rest : (n : ℕ) → n + 4 * m + 4 ≡ 4 * length s → n ≡ 4 * length (take (length (headed e m s rs) - (1 + m)) (drop (1 + m) (headed e m s rs)))
-  headed-rest n h =
-      omega (arith, headed-length, length-take (length (headed e m s rs) - (1 + m)) (drop (1 + m) (headed e m s rs)), length-drop (1 + m) (headed e m s rs))
-
   pub all-filled : (xs : List ℕ) → refilled (1 + m) (headed e m s rs) xs ≡ e ∷ (rs ++ xs)
   all-filled xs =
       ap (λ (t : List ℕ). refilled (1 + m) t xs) (headed-is e m s rs (omega arith))
       ∙ refilled-is {a = 1 + m} (e ∷ rs) (drop (1 + m - 1) (drop 1 s)) xs (omega arith)
-
-  pub filled-length : (xs : List ℕ) → length xs ≡ length s - (1 + m) → length (refilled (1 + m) (headed e m s rs) xs) ≡ length s
-  filled-length xs h = ap length (all-filled xs) ∙ omega (arith, length-append rs xs)

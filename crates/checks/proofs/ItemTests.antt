@@ -4,24 +4,26 @@ use mathlib.Core.Bool.{true}
 use mathlib.Core.List.{List}
 use Prim.Native.Nat.{ℕ, ◌+◌, ◌-◌, ◌*◌, ◌≤◌, ◌<◌}
 use native.Mathlib.Omega.{arith}
-use borrow.Author.Tests.{eqb-true, eq-eqb, ltb-true}
+use borrow.Author.Tests.{eqb-true, eq-eqb, ltb-true, lt-ltb}
 use lib.Dec.{eqb, ltb}
 use lib.ListN.{length, get_or, take, drop, length-take}
 use lib.Seq.{get_or-take, get_or-drop}
 use Rattle.algebra.specs.Lists.{build}
 use Rattle.algebra.proofs.ListLaws.{build-cong}
-use Rattle.numbers.specs.Numbers.{numbers}
-use Rattle.numbers.proofs.Bounds.{all-below}
+use Rattle.numbers.specs.Numbers.{numbers, all_below}
+use Rattle.numbers.proofs.Bounds.{below, all-below}
+use Rattle.numbers.proofs.Bytes.{count-numbers, numbers-take}
 use Rattle.numbers.proofs.Tests.{same_test}
 use Rattle.field.specs.BabyBear.{p, R, F, val, ofℕ}
 use Rattle.field.proofs.Laws.{val-small, ofℕ-val}
 use Rattle.tree.specs.Layout.{part}
 use Rattle.theory.specs.R1cs.{Circuit, value}
-use Rattle.theory.specs.Buffers.{number_at}
+use Rattle.theory.specs.Checks.{every}
+use Rattle.theory.specs.Buffers.{entry_count, number_at}
 use Rattle.theory.specs.Sizes.{elements_below}
 use Rattle.theory.specs.Fp.{fp, element_at, elements, item_front, read_item, item_below, same_element}
-use Rattle.theory.proofs.CheckLaws.{every_true}
-use Rattle.theory.proofs.Parts.{length_part}
+use Rattle.theory.proofs.CheckLaws.{every_true, true-every}
+use Rattle.theory.proofs.Parts.{length_part, part-part, part-within}
 use Rattle.theory.proofs.ElementBytes.{numbers-part}
 use Rattle.theory.proofs.Equality.{same-element, equal-element}
 
@@ -46,6 +48,30 @@ number-part b i n j h l =
 pub elements-part : (b : List ℕ) (i n : ℕ) → 4 * i + 4 * n ≤ length b → elements n (part b (4 * i) (4 * n)) ≡ build n (λ j. element_at b (i + j))
 elements-part b i n h = build-cong n (element_at (part b (4 * i) (4 * n))) (λ j. element_at b (i + j)) (λ j l. ap ofℕ (number-part b i n j h l))
 
+-- The first n numbers of a buffer.
+first-below : (n : ℕ) (xs : List ℕ) → n ≤ length xs → all_below p (take n xs) ≡ every n (λ j. ltb (get_or xs j 0) p)
+first-below n xs h =
+    same_test (all_below p (take n xs)) (every n (λ j. ltb (get_or xs j 0) p))
+    (λ t. true-every n _ (λ j l. lt-ltb (get_or xs j 0) p (rw (sym (get_or-take n xs j 0 l)) (below p (take n xs) t j (omega (arith, length-take n xs))))))
+    (λ t. all-below p (take n xs) (λ j l. let inside : j < n = omega (arith, length-take n xs) in rw (get_or-take n xs j 0 inside) (ltb-true (get_or xs j 0) p (every_true n _ t j inside))))
+
+pub front-below : (n : ℕ) (b : List ℕ) → 4 * n ≤ length b → elements_below (take (4 * n) b) ≡ every n (λ j. ltb (number_at b j) p)
+front-below n b h = ap (all_below p) (numbers-take n b h) ∙ first-below n (numbers b) (omega (arith, count-numbers b))
+
+-- Number j of entry i, of three numbers, and number 0 of a part.
+pub entry-number : (b : List ℕ) (i j : ℕ) → i < entry_count b → j < 3 → number_at (part b (i * 12) 12) j ≡ number_at b (3 * i + j)
+entry-number b i j h l =
+    let start : i * 12 ≡ 4 * (3 * i) = omega arith in
+    ap (λ (at : ℕ). number_at (part b at 12) j) start ∙ number-part b (3 * i) 3 j (omega arith) l
+
+-- Number 0 of member j of members of one size.
+pub first-number : (b : List ℕ) (size count j : ℕ) → j < count → length b ≡ count * size → 4 ≤ size → number_at (part b (j * size) size) 0 ≡ number_at (part b (j * size) 4) 0
+first-number b size count j h long room =
+    let inside = part-within count j size (length b) h long in
+    let here : j * size + 0 ≡ j * size = omega arith in
+    sym (number-part (part b (j * size) size) 0 1 0 (omega (arith, length_part b (j * size) size inside)) (omega arith))
+    ∙ ap (λ (bytes : List ℕ). number_at bytes 0) (part-part b (j * size) size 0 4 room ∙ ap (λ (at : ℕ). part b at 4) here)
+
 -- ---- an item of m and n numbers
 
 module _ (m n : ℕ) (b : List ℕ) (room : item_front m n ≤ length b) where
@@ -66,12 +92,6 @@ module _ (m n : ℕ) (b : List ℕ) (room : item_front m n ≤ length b) where
       let count : 4 + 4 * m + 4 * n - (4 + 4 * m) ≡ 4 * n = omega arith in
       let start : 4 + 4 * m ≡ 4 * (1 + m) = omega arith in
       ap₂ (part b) start count
-
-  pub r-length : length r_bytes ≡ 4 * m
-  r-length = ap length r-part ∙ length_part b 4 (4 * m) (omega arith)
-
-  pub x-length : length x_bytes ≡ 4 * n
-  x-length = ap length x-part ∙ length_part b (4 * (1 + m)) (4 * n) (omega arith)
 
   -- The value at their elements is that at the item's.
   pub item-value-read : (M : Circuit F) (w : List F) → val (value R M (elements m r_bytes) (elements n x_bytes) w) ≡ val (value R M (read_item m n b).r (read_item m n b).x w)

@@ -31,7 +31,7 @@ input-test n x some size small =
     one-test (number_at x 0) (below p (numbers x) small 0 (omega (arith, length-numbers n x size)))
     ∙ ap (λ (e : F). same_element e 𝟙) (sym (get_or-build n (element_at x) 0 𝟘 some))
 
--- Of an item, and of l items whose size was worked out before.
+-- Of an item, and of l items.
 item-test : (m n : ℕ) (b : List ℕ) → 1 ≤ n → item_below m n b ≡ true → eqb (number_at b (1 + m)) 1 ≡ leading_one fp (read_item m n b).x
 item-test m n b some small =
     let first : 1 + m ≡ 1 + m + 0 = omega arith in
@@ -39,8 +39,7 @@ item-test m n b some small =
     ∙ ap (λ (j : ℕ). same_element (element_at b j) 𝟙) first
     ∙ ap (λ (e : F). same_element e 𝟙) (sym (get_or-build n (λ j. element_at b (1 + m + j)) 0 𝟘 some))
 
-pub items-test : (m n l : ℕ) (items : List ℕ) {size : ℕ} → size ≡ item_size m n → 1 ≤ n → items_below m n l items ≡ true
-    → every l (λ i. eqb (number_at (part items (i * size) size) (1 + m)) 1) ≡ items_leading_one fp m n l items
-items-test m n l items e some small =
-    ap (λ (s : ℕ). every l (λ i. eqb (number_at (part items (i * s) s) (1 + m)) 1)) e
-    ∙ every-cong l _ _ (λ i h. item-test m n (part items (i * item_size m n) (item_size m n)) some (every_true l _ small i h))
+pub items-test : (m n l : ℕ) (items : List ℕ) → 1 ≤ n → items_below m n l items ≡ true
+    → every l (λ i. eqb (number_at (part items (i * item_size m n) (item_size m n)) (1 + m)) 1) ≡ items_leading_one fp m n l items
+items-test m n l items some small =
+    every-cong l _ _ (λ i h. item-test m n (part items (i * item_size m n) (item_size m n)) some (every_true l _ small i h))

@@ -1,11 +1,11 @@
 pub mod Laws
-pub mod Fronts
+pub mod Chunks
 pub mod WitnessLaws
 pub mod ItemTests
 pub mod LeadingLaws
 pub mod ClaimLaws
-pub mod Members
 pub mod Listed
 pub mod ListLaws
+pub mod ListParts
 pub mod Filled
 pub mod Calls

@@ -1,93 +1,63 @@
-// Check 3: elements, values of entries and opened values are below p. Where items and openings lie is said by their sizes in bytes.
-ghost use Rattle.std.specs.Prelude.{◌≡◌, ◌*◌, ◌≤◌, ltb, length};
-ghost use Rattle.field.specs.BabyBear.{p};
-ghost use Rattle.tree.specs.Layout.{part, opened_value};
-ghost use Rattle.theory.specs.Checks.{every};
-ghost use Rattle.theory.specs.Buffers.{number_at};
+// Check 3: elements, values of entries and opened values are below p.
+ghost use Rattle.std.specs.Prelude.{◌≡◌, ℕ, ◌*◌, ◌≤◌, length};
+ghost use Rattle.tree.specs.Layout.{opening_size};
+ghost use Rattle.code.specs.Points.{depth};
 ghost use Rattle.theory.specs.Sizes.{elements_below, matrix_below, circuit_below};
+ghost use Rattle.theory.specs.Fp.{item_front, item_size, item_below, items_below, opened_below};
 
-// All numbers of a buffer of whole numbers.
-pub fn elements_below(b: &[u8], count: usize) -> bool
-    requires { length b.now ≡ 4 * count }
+use r1cs::circuit::Circuit;
+use r1cs::sizes::Sizes;
+
+// All numbers of a buffer.
+pub fn elements_below(b: &[u8]) -> bool
     ensures { result ≡ elements_below b.now }
 {
-    numbers::all_below(b, count, field::P)
+    numbers::all_below(b, field::P)
 }
 
 // The values of a matrix's entries.
 fn matrix_below(b: &[u8]) -> bool
     ensures { result ≡ matrix_below b.now }
 {
-    let count = b.len() / 12;
-    let mut i = 0;
-    while i < count {
-        if field::P <= numbers::get(b, 3 * i + 2) {
-            return false;
-        }
-        i += 1;
-    }
-    true
+    b.chunks_exact(12)
+        .all(|entry| numbers::get(entry, 2) < field::P)
 }
 
 // The values of a circuit's entries, list by list: joined by `&` the three loops are slower.
-pub fn circuit_below(a: &[u8], b: &[u8], c: &[u8]) -> bool
-    ensures { result ≡ circuit_below a.now b.now c.now }
+pub fn circuit_below(circuit: &Circuit<'_>) -> bool
+    ensures { result ≡ circuit_below circuit.now.a.now circuit.now.b.now circuit.now.c.now }
 {
-    if !matrix_below(a) {
+    if !matrix_below(circuit.a) {
         return false;
     }
-    if !matrix_below(b) {
+    if !matrix_below(circuit.b) {
         return false;
     }
-    matrix_below(c)
+    matrix_below(circuit.c)
 }
 
-// The first `count` numbers of an item.
-pub fn item_below(count: usize, item: &[u8]) -> bool
-    requires { 4 * count ≤ length item.now }
-    ensures { result ≡ every count (λ j. ltb (number_at item.now j) p) }
+// The elements of an item.
+pub fn item_below(sizes: Sizes, item: &[u8]) -> bool
+    requires { item_front sizes.m sizes.n ≤ length item.now }
+    ensures { result ≡ item_below sizes.m sizes.n item.now }
 {
-    let mut j = 0;
-    while j < count {
-        if field::P <= numbers::get(item, j) {
-            return false;
-        }
-        j += 1;
-    }
-    true
+    elements_below(&item[..sizes.item_front()])
 }
 
-// The first `count` numbers of each of l items of `size` bytes.
-pub fn items_below(count: usize, size: usize, l: usize, items: &[u8]) -> bool
-    requires { (4 * count ≤ size) × (length items.now ≡ l * size) }
-    ensures { result ≡ every l (λ i. every count (λ j. ltb (number_at (part items.now (i * size) size) j) p)) }
+// The elements of each item of a list.
+pub fn items_below(sizes: Sizes, items: &[u8]) -> bool
+    ensures { (l : ℕ) → length items.now ≡ l * item_size sizes.m sizes.n → result ≡ items_below sizes.m sizes.n l items.now }
 {
-    let mut at = 0;
-    let mut i = 0;
-    while i < l {
-        let next = at + size;
-        if !item_below(count, &items[at..next]) {
-            return false;
-        }
-        at = next;
-        i += 1;
-    }
-    true
+    items
+        .chunks_exact(sizes.item_size())
+        .all(|item| item_below(sizes, item))
 }
 
-// The values of `count` openings of `size` bytes.
-pub fn opened_below(size: usize, count: usize, openings: &[u8]) -> bool
-    requires { (4 ≤ size) × (length openings.now ≡ count * size) }
-    ensures { result ≡ every count (λ j. ltb (opened_value openings.now (j * size)) p) }
+// The values of openings.
+pub fn opened_below(sizes: Sizes, openings: &[u8]) -> bool
+    ensures { (count : ℕ) → length openings.now ≡ count * opening_size (depth sizes.k) → result ≡ opened_below (depth sizes.k) count openings.now }
 {
-    let mut at = 0;
-    let mut j = 0;
-    while j < count {
-        if field::P <= tree::value_at(openings, at) {
-            return false;
-        }
-        at += size;
-        j += 1;
-    }
-    true
+    openings
+        .chunks_exact(sizes.opening_size())
+        .all(|opening| numbers::get(opening, 0) < field::P)
 }

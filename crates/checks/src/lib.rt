@@ -8,5 +8,6 @@ pub mod leading;
 pub mod list;
 pub mod order;
 pub mod points;
+pub mod refusal;
 pub mod sizes;
 pub mod witness;

@@ -1,5 +1,5 @@
 // The points that a caller lends: check 2 of their length, and check 12.
-ghost use Rattle.std.specs.Prelude.{◌≡◌, true, ◌*◌, ◌<◌, length};
+ghost use Rattle.std.specs.Prelude.{◌≡◌, true, ◌<◌};
 ghost use Rattle.code.specs.Points.{is_witness_count};
 ghost use Rattle.theory.specs.Sizes.{points_fit, points_differ};
 
@@ -8,16 +8,7 @@ pub fn fits(k: usize, points: &[u8]) -> bool
     requires { k < 4294967296 }
     ensures { result ≡ points_fit k points.now }
 {
-    (points.len() == 0) | (points.len() == 4 * (4 * k))
-}
-
-// Check 12; lent is scratch space for the numbers of the points.
-fn differ_in(points: &[u8], lent: &mut [u32]) -> bool
-    requires { length points.now ≡ 4 * length lent.old }
-    ensures { result ≡ points_differ points.now }
-{
-    numbers::load(points, lent);
-    numbers::all_below(points, lent.len(), field::P) & numbers::all_different(lent)
+    points.is_empty() | (points.len() == 4 * (4 * k))
 }
 
 // Check 12, after check 2: each lent point is below p, and none repeats another.
@@ -25,9 +16,11 @@ pub fn differ(k: usize, points: &[u8]) -> bool
     requires { (is_witness_count k ≡ true) × (points_fit k points.now ≡ true) }
     ensures { result ≡ points_differ points.now }
 {
-    if points.len() == 0 {
+    if points.is_empty() {
         return true;
     }
-    let mut lent = [0u32; 256];
-    differ_in(points, &mut lent[..4 * k])
+    let mut scratch = [0u32; 256];
+    let lent = &mut scratch[..4 * k];
+    numbers::load(points, lent);
+    numbers::all_below(points, field::P) & numbers::all_different(lent)
 }

@@ -11,22 +11,22 @@ use running::Running;
 // The byte 0x06, m, n and k are fed in.
 fn sizes(m: usize, n: usize, k: usize) -> Running
     requires { (m < 4294967296) × (n < 4294967296) × (k < 4294967296) }
-    ensures { (result.len ≡ 13) × Fed result.value result.rest result.len (sizes_string m n k) }
+    ensures { (result.len ≡ 13) × Fed result (sizes_string m n k) }
 {
     Running::new()
-        .feed_byte(6)
-        .feed_number(m as u32)
-        .feed_number(n as u32)
-        .feed_number(k as u32)
+        .feed(&[0x06])
+        .feed(&(m as u32).to_le_bytes())
+        .feed(&(n as u32).to_le_bytes())
+        .feed(&(k as u32).to_le_bytes())
 }
 
 // Feeds in the count of a list's entries, and the entries.
 fn feed_list(h: Running, b: &[u8]) -> Running
     requires { (h.len ≤ 1048576) × (length b.now ≤ 12288) }
-    ensures { Feeds (list_string b.now) h.value h.rest h.len result.value result.rest result.len }
+    ensures { Feeds (list_string b.now) h result }
 {
     let count = b.len() / 12;
-    h.feed_number(count as u32).feed_slice(b)
+    h.feed(&(count as u32).to_le_bytes()).feed(b)
 }
 
 // The digest of a circuit.

@@ -2,8 +2,12 @@
 -- Assumes nothing.
 use mathlib.Core.Path.{◌≡◌, sym, ◌∙◌, ap}
 use mathlib.Core.List.{List, map}
-use Prim.Native.Nat.{ℕ, suc, ◌<◌}
-use lib.ListN.{length, get_or, drop}
+use Rattle.std.specs.Prelude.{reverse}
+use Prim.Native.Nat.{ℕ, suc, ◌+◌, ◌-◌, ◌<◌}
+use native.Mathlib.Omega.{arith}
+use Rattle.std.proofs.lemmas.List.{get_or-reverse}
+use Rattle.std.proofs.lemmas.Grind.{get_or_default_zero}
+use lib.ListN.{length, get_or, drop, length-reverse}
 use lib.Seq.{drop-cons, drop-length}
 use Rattle.algebra.specs.Lists.{build}
 use Rattle.algebra.specs.Polynomial.{eval_poly}
@@ -20,6 +24,13 @@ Upper w x i acc = acc ≡ val (eval_poly R (map ofℕ (drop i w)) (ofℕ x))
 pub upper-end : (w : List ℕ) (x : ℕ) → Upper w x (length w) 0
 unfolding Upper
 upper-end w x = sym (ap (λ (l : List ℕ). val (eval_poly R (map ofℕ l) (ofℕ x))) (drop-length w) ∙ val-zero)
+
+-- Number n, the one after k of a list's numbers taken from its end.
+pub from-the-end : (w : List ℕ) (k n : ℕ) → (k < length (reverse w)) × (n ≡ get_or (reverse w) k n) → (k < length w) × (n ≡ get_or w (length w - (k + 1)) 0)
+from-the-end w k n t = (inside, t.1 ∙ get_or-reverse w k n inside ∙ ap (λ (i : ℕ). get_or w i n) (omega arith) ∙ get_or_default_zero w (length w - (k + 1)) n (omega (arith, inside)))
+  where
+    inside : k < length w
+    inside = omega (arith, t.0, length-reverse w)
 
 -- One turn, down to number i: m is x times the value so far, and r is number i plus m.
 pub upper-turn : (w : List ℕ) (x i j acc : ℕ) → i < length w → j ≡ suc i → Upper w x j acc

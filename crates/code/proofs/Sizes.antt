@@ -2,9 +2,13 @@
 -- Assumes nothing.
 use mathlib.Core.Path.{◌≡◌, refl, sym, subst}
 use mathlib.Core.Bool.{Bool, true, false, ◌||◌}
-use Prim.Native.Nat.{ℕ, ◌*◌, ◌/◌, ◌^◌, ◌≤◌, ◌<◌}
+use Prim.Native.Nat.{ℕ, suc, ◌*◌, ◌/◌, ◌^◌, ◌≤◌, ◌<◌}
+use native.Mathlib.Nat.{pow-succ'}
+use native.Mathlib.Decide.{dec_lt}
+use native.Mathlib.Omega.{arith}
 use borrow.Author.Tests.{eqb-true}
 use lib.Dec.{eqb, lit<, lit≤}
+use lib.Pow.{pow_mono, pow-lt}
 use Rattle.code.specs.Points.{is_witness_count, depth}
 
 either : {P : Type 0} (s t : Bool) → (s ≡ true → P) → (t ≡ true → P) → s || t ≡ true → P
@@ -45,8 +49,11 @@ count-positive = for-witness-counts (λ k. 0 < k) (lit< tt) (lit< tt) (lit< tt) 
 pub count-few : (k : ℕ) → is_witness_count k ≡ true → k ≤ 64
 count-few = for-witness-counts (λ k. k ≤ 64) (lit≤ tt) (lit≤ tt) (lit≤ tt) (lit≤ tt) (lit≤ tt) (lit≤ tt)
 
--- The count that is none of the first five is 64.
-pub depth-otherwise : (k : ℕ) → is_witness_count k ≡ true → (k ≡ 2 → ⊥) → (k ≡ 4 → ⊥) → (k ≡ 8 → ⊥) → (k ≡ 16 → ⊥) → (k ≡ 32 → ⊥) → 8 ≡ depth k
-unfolding depth
-depth-otherwise = for-witness-counts (λ k. (k ≡ 2 → ⊥) → (k ≡ 4 → ⊥) → (k ≡ 8 → ⊥) → (k ≡ 16 → ⊥) → (k ≡ 32 → ⊥) → 8 ≡ depth k)
-    (λ a b c d e. absurd (a refl)) (λ a b c d e. absurd (b refl)) (λ a b c d e. absurd (c refl)) (λ a b c d e. absurd (d refl)) (λ a b c d e. absurd (e refl)) (λ a b c d e. refl)
+-- The depth is the only number d with 4k from 2 ^ d up to 2 * 2 ^ d.
+pub depth-only : (k d : ℕ) → is_witness_count k ≡ true → 2 ^ d ≤ 4 * k → 4 * k < 2 * 2 ^ d → d ≡ depth k
+depth-only k d h low high = go (dec_lt d (depth k)) (dec_lt (depth k) d)
+  where
+    go : Dec (d < depth k) → Dec (depth k < d) → d ≡ depth k
+    go (yes l) e = absurd (omega (arith, depth-leaves k h, pow_mono {i = suc d} {j = depth k} l, pow-succ' 2 d))
+    go (no n) (yes l) = absurd (omega (arith, depth-leaves k h, pow-lt l))
+    go (no n) (no m) = omega arith

@@ -54,22 +54,15 @@ pub fn table() -> [u32; 256]
 pub fn is_witness_count(k: u32) -> bool
     ensures { result ≡ is_witness_count k }
 {
-    (k == 2) | (k == 4) | (k == 8) | (k == 16) | (k == 32) | (k == 64)
+    matches!(k, 2 | 4 | 8 | 16 | 32 | 64)
 }
 
-// The levels of the tree over a codeword of k witness numbers.
+// The levels of the tree over a codeword of k witness numbers: the logarithm of its 4k values.
 pub fn depth_of(k: usize) -> usize
     requires { is_witness_count k ≡ true }
     ensures { result ≡ depth k }
 {
-    match k {
-        2 => 3,
-        4 => 4,
-        8 => 5,
-        16 => 6,
-        32 => 7,
-        _ => 8,
-    }
+    (4 * k).ilog2() as usize
 }
 
 // The value of the witness w at x, by Horner's rule from the highest number down.
@@ -77,11 +70,9 @@ pub fn value_at(w: &[u32], x: u32) -> u32
     requires { Below w.now }
     ensures { result ≡ val (value_at R (map ofℕ w.now) (ofℕ x)) }
 {
-    let mut acc: u32 = 0;
-    let mut i = w.len();
-    while 0 < i {
-        i -= 1;
-        acc = field::add(w[i], field::mul(x, acc));
+    let mut acc = 0;
+    for number in w.iter().rev() {
+        acc = field::add(*number, field::mul(x, acc));
     }
     acc
 }
@@ -91,9 +82,7 @@ pub fn codeword(w: &[u32], points: &[u32], out: &mut [u32])
     requires { (length out.old ≡ length points.now) × Below w.now }
     ensures { out.new ≡ map val (codeword R (map ofℕ points.now) (map ofℕ w.now)) }
 {
-    let mut i = 0;
-    while i < out.len() {
-        out[i] = value_at(w, points[i]);
-        i += 1;
+    for (i, value) in out.iter_mut().enumerate() {
+        *value = value_at(w, points[i]);
     }
 }

@@ -1,2 +1,1 @@
 pub mod CastLaws
-pub mod DecideLaws

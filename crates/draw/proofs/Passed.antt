@@ -2,19 +2,18 @@
 use mathlib.Core.Path.{◌≡◌}
 use mathlib.Core.Bool.{true, ◌&&◌}
 use mathlib.Core.List.{List, [], ◌∷◌}
-use Prim.Native.Nat.{ℕ, ◌*◌, ◌≤◌}
+use Prim.Native.Nat.{ℕ, ◌*◌}
 use native.Mathlib.Omega.{arith}
-use borrow.Author.Tests.{eqb-true, leb-true}
-use lib.Dec.{leb}
+use borrow.Author.Tests.{eqb-true}
 use lib.ListN.{length}
 use Rattle.numbers.proofs.Tests.{each-true}
 use Rattle.code.specs.Points.{is_witness_count}
 use Rattle.theory.specs.Combination.{quotient_size}
 use Rattle.theory.specs.Checks.{answer}
-use Rattle.theory.specs.Sizes.{sizes, item_count_fits, position_count_fits, has_length, elements_below, leading_one, items_leading_one}
-use Rattle.theory.specs.Fp.{fp, challenge_fits, elements, item_size, items_below}
+use Rattle.theory.specs.Sizes.{sizes, item_count_fits, position_count_fits, has_length, elements_below, items_leading_one}
+use Rattle.theory.specs.Fp.{fp, challenge_fits, item_size, items_below}
 use Rattle.theory.proofs.CheckLaws.{answer-passed}
-use Rattle.draw.specs.Draw.{draw_challenge_fits, draw_challenge_checks, draw_positions_fits, draw_positions_checks, draw_r_fits, draw_r_checks}
+use Rattle.draw.specs.Draw.{draw_challenge_fits, draw_challenge_checks, draw_positions_fits, draw_positions_checks}
 
 -- ---- drawing a challenge
 
@@ -80,36 +79,3 @@ module _ (k l t challenge : ℕ) (seed root positions : List ℕ) where
   positions-pass e =
       let s = answer-passed (draw_positions_checks k l t challenge seed root positions) (omega arith) e in
       record { fits = positions-fit s.0; permitted = s.1.0 }
-
--- ---- drawing r
-
-module _ (m n : ℕ) (root x r : List ℕ) where
-  pub record RFits : Type 0 where
-    pub few_bits : m ≤ 6
-    pub some-input : 1 ≤ n
-    pub few-inputs : n ≤ 64
-    pub root-length : length root ≡ 32
-    pub x-length : length x ≡ 4 * n
-    pub r-length : length r ≡ 4 * m
-
-  pub r-fits : draw_r_fits m n root x r ≡ true → RFits
-  r-fits h =
-      let t = each-true (leb m 6) (leb 1 n ∷ leb n 64 ∷ has_length root 32 ∷ has_length x (4 * n) ∷ has_length r (4 * m) ∷ []) h in
-      record {
-        few_bits = leb-true m 6 t.0;
-        some-input = leb-true 1 n t.1.0;
-        few-inputs = leb-true n 64 t.1.1.0;
-        root-length = eqb-true (length root) 32 t.1.1.1.0;
-        x-length = eqb-true (length x) (4 * n) t.1.1.1.1.0;
-        r-length = eqb-true (length r) (4 * m) t.1.1.1.1.1.0;
-      }
-
-  pub record RPasses : Type 0 where
-    pub fits : RFits
-    pub below : elements_below x ≡ true
-    pub leading-one : leading_one fp (elements n x) ≡ true
-
-  pub r-passes : answer (draw_r_checks m n root x r) ≡ 0 → RPasses
-  r-passes e =
-      let t = answer-passed (draw_r_checks m n root x r) (omega arith) e in
-      record { fits = r-fits t.0; below = t.1.0; leading-one = t.1.1.0 }

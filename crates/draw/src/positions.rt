@@ -4,9 +4,10 @@ ghost use Rattle.algebra.specs.Lists.{build};
 ghost use Rattle.numbers.specs.Numbers.{bytes};
 ghost use Rattle.code.specs.Points.{is_witness_count};
 ghost use Rattle.theory.specs.Checks.{answer};
+ghost use Rattle.checks.specs.Refusals.{answer_of};
 ghost use Rattle.draw.specs.Draw.{position_of, draw_positions_fits, draw_positions_checks, draw_positions};
 
-use crate::hashed;
+use checks::refusal::{Refusal, ensure};
 use running::Running;
 
 // Check 2.
@@ -32,16 +33,14 @@ fn verdict(
     seed: &[u8],
     root: &[u8],
     positions: &[u8],
-) -> u32
-    ensures { result ≡ answer (draw_positions_checks k l t challenge seed.now root.now positions.now) }
+) -> Result<(), Refusal>
+    ensures { answer_of result ≡ answer (draw_positions_checks k l t challenge seed.now root.now positions.now) }
 {
-    if !fits(k, l, t, seed, root, positions) {
-        return 2;
-    }
-    if !checks::sizes::challenge_fits(l, challenge) {
-        return 5;
-    }
-    0
+    ensure(fits(k, l, t, seed, root, positions), Refusal::Sizes)?;
+    ensure(
+        checks::sizes::challenge_fits(l, challenge),
+        Refusal::Challenge,
+    )
 }
 
 // Writes t positions: what they have in common is fed in once.
@@ -49,12 +48,14 @@ fn write(k: u32, t: usize, challenge: u32, seed: &[u8], root: &[u8], positions: 
     requires { (is_witness_count k ≡ true) × (t ≤ 256) × (length seed.now ≡ 32) × (length root.now ≡ 32) × (length positions.old ≡ 4 * t) }
     ensures { positions.new ≡ bytes (build t (position_of k seed.now challenge root.now)) }
 {
-    let started = Running::new().feed_byte(0x04).feed_slice(seed);
-    let common = started.feed_number(challenge).feed_slice(root);
-    let mut j = 0;
-    while j < t {
-        numbers::put(positions, j, hashed::four_at(common, j as u32, 4 * k));
-        j += 1;
+    let common = Running::new()
+        .feed(&[0x04])
+        .feed(seed)
+        .feed(&challenge.to_le_bytes())
+        .feed(root);
+    for j in 0..t {
+        let d = common.feed(&(j as u32).to_le_bytes()).digest();
+        numbers::put(positions, j, numbers::get(&d, 0) % (4 * k));
     }
 }
 
@@ -67,14 +68,11 @@ pub fn draw_positions(
     seed: &[u8],
     root: &[u8],
     positions: &mut [u8],
-) -> u32
-    ensures answer { result ≡ (draw_positions k l t challenge seed.now root.now positions.old).answer }
+) -> Result<(), Refusal>
+    ensures answer { answer_of result ≡ (draw_positions k l t challenge seed.now root.now positions.old).answer }
     ensures positions { positions.new ≡ (draw_positions k l t challenge seed.now root.now positions.old).positions }
 {
-    let answer = verdict(k, l, t, challenge, seed, root, positions);
-    if answer != 0 {
-        return answer;
-    }
+    verdict(k, l, t, challenge, seed, root, positions)?;
     write(k, t as usize, challenge, seed, root, positions);
-    0
+    Ok(())
 }

@@ -9,7 +9,7 @@ use lib.ListN.{length, take, drop, length-append, length-drop, take-append-drop}
 use lib.Seq.{length-take-le, drop-drop, drop_at}
 use Rattle.algebra.specs.Lists.{concat_to}
 use Rattle.tree.specs.Layout.{part}
-use Rattle.tree.proofs.Written.{put_back, put-length, copied-over}
+use Rattle.tree.proofs.Written.{put_back, put-length}
 use Rattle.theory.proofs.Parts.{length_part, part_cut, part_left, part_right, part-whole, part-within}
 use Rattle.encoder.specs.Parts.{replaced, Filled}
 
@@ -53,25 +53,9 @@ borrowed-length s x at n h e =
       length_part s at n h,
     )
 
--- A part that is copied over another of the same size.
-module _ (from to : List ℕ) (start at n : ℕ) (h : start + n ≤ length from) (g : at + n ≤ length to) where
-  abbrev source : List ℕ
-  source = take (start + n - start) (drop start from)
-
-  abbrev target : List ℕ
-  target = take (at + n - at) (drop at to)
-
-  pub part-copied : take (length source) source ++ drop (length source) target ≡ part from start n
-  part-copied =
-      copied-over source target (omega (arith, ap length (part_cut to at n), ap length (part_cut from start n), length_part to at n g, length_part from start n h))
-      ∙ part_cut from start n
-
 -- ---- the parts of a buffer, one after the other
 
 module _ (size : ℕ) (f : ℕ → List ℕ) (entry : List ℕ) where
-  pub none_filled : Filled size f entry 0 entry
-  none_filled = record { parts = λ j l. absurd (omega arith); rest = refl; same = refl }
-
   pub filled-cong : (g : ℕ → List ℕ) (i : ℕ) (s : List ℕ) → ((j : ℕ) → j < i → f j ≡ g j) → Filled size f entry i s → Filled size g entry i s
   filled-cong g i s h e = record { parts = λ j l. e.parts j l ∙ h j l; rest = e.rest; same = e.same }
 

@@ -1,12 +1,13 @@
 -- The openings of each witness, put in order: the lengths as they are worked out, and what is written.
-use mathlib.Core.Path.{◌≡◌, refl, sym, ap, ap₂, ◌∙◌}
+use mathlib.Core.Path.{◌≡◌, sym, ap, ap₂, ◌∙◌}
 use mathlib.Core.Bool.{Bool, true}
-use mathlib.Core.List.{List, ◌++◌}
-use Prim.Native.Nat.{ℕ, zero, suc, ◌+◌, ◌*◌, ◌≤◌, ◌<◌}
+use mathlib.Core.List.{List}
+use Prim.Native.Nat.{ℕ, suc, ◌+◌, ◌*◌, ◌≤◌, ◌<◌}
 use native.Mathlib.Nat.{mul-le-mul}
 use native.Mathlib.Numerals.{add-one}
 use native.Mathlib.Omega.{arith}
 use Rattle.algebra.specs.Lists.{concat_to}
+use Rattle.algebra.proofs.ListLaws.{concat_to-cong}
 use Rattle.tree.specs.Layout.{part, opening_size}
 use Rattle.code.specs.Points.{depth}
 use Rattle.theory.specs.Checks.{answer_if, written}
@@ -37,10 +38,6 @@ module _ (k t l size : ℕ) (sized : size ≡ opening_size (depth k)) where
   in_parts n h = h ∙ ap₂ (λ (j b : ℕ). j * (t * b)) (sym (add-one l)) (sym sized)
 
 -- ---- for callers
-
-concat_to-cong : {A : Type 0} (n : ℕ) (f g : ℕ → List A) → ((i : ℕ) → i < n → f i ≡ g i) → concat_to n f ≡ concat_to n g
-concat_to-cong zero f g h = refl
-concat_to-cong (suc n) f g h = ap₂ ◌++◌ (h 0 (omega arith)) (concat_to-cong n (λ i. f (suc i)) (λ i. g (suc i)) (λ i l. h (suc i) (omega arith)))
 
 -- The order of equal buffers.
 pub in-order-cong : (d t l : ℕ) (f g : ℕ → List ℕ) → ((i : ℕ) → i < suc l → f i ≡ g i) → in_order d t l f ≡ in_order d t l g

@@ -1,11 +1,12 @@
 // Interleaving: the openings of l + 1 witnesses, taken position by position and, within one, item by item. Check 2.
 ghost use Rattle.std.specs.Prelude.{◌≡◌, ◌+◌, ◌*◌, ◌≤◌, length};
 ghost use Rattle.algebra.specs.Lists.{concat_to};
-ghost use Rattle.tree.specs.Layout.{part};
 ghost use Rattle.theory.specs.Fp.{interleave_fits, interleave};
-ghost use Rattle.encoder.specs.Parts.{replaced, piece};
+ghost use Rattle.checks.specs.Refusals.{answer_of};
+ghost use Rattle.encoder.specs.Parts.{piece};
 
 use crate::open;
+use checks::refusal::{Refusal, ensure};
 
 // Check 2.
 pub fn fits(k: u32, l: u32, t: u32, opened: &[u8], openings: &[u8]) -> bool
@@ -19,23 +20,14 @@ pub fn fits(k: u32, l: u32, t: u32, opened: &[u8], openings: &[u8]) -> bool
     checks::sizes::position_count_fits(k, t) & (opened.len() == size) & (openings.len() == size)
 }
 
-// Copies size bytes from one place to another.
-fn copy_part(from: &[u8], start: usize, size: usize, to: &mut [u8], at: usize)
-    requires { (start + size ≤ length from.now) × (at + size ≤ length to.old) }
-    ensures { to.new ≡ replaced to.old at size (part from.now start size) }
-{
-    to[at..at + size].copy_from_slice(&from[start..start + size]);
-}
-
 // Copies the openings of position q, one from each of the parts of width bytes.
 fn row(opened: &[u8], width: usize, count: usize, size: usize, q: usize, out: &mut [u8])
     requires { (length opened.now ≡ count * width) × (q * size + size ≤ width) × (length out.old ≡ count * size) }
     ensures { out.new ≡ concat_to count (λ i. piece opened.now width size i q) }
 {
-    let mut i = 0;
-    while i < count {
-        copy_part(opened, i * width + q * size, size, out, i * size);
-        i += 1;
+    for i in 0..count {
+        let from = i * width + q * size;
+        out[i * size..i * size + size].copy_from_slice(&opened[from..from + size]);
     }
 }
 
@@ -46,23 +38,19 @@ fn in_order(opened: &[u8], t: usize, count: usize, size: usize, openings: &mut [
 {
     let width = t * size;
     let wide = count * size;
-    let mut q = 0;
-    while q < t {
+    for q in 0..t {
         let at = q * wide;
         row(opened, width, count, size, q, &mut openings[at..at + wide]);
-        q += 1;
     }
 }
 
 // Runs check 2, and writes the openings of l + 1 witnesses in the order in which verifying reads them.
-pub fn interleave(k: u32, l: u32, t: u32, opened: &[u8], openings: &mut [u8]) -> u32
-    ensures answer { result ≡ (interleave k l t opened.now openings.old).answer }
+pub fn interleave(k: u32, l: u32, t: u32, opened: &[u8], openings: &mut [u8]) -> Result<(), Refusal>
+    ensures answer { answer_of result ≡ (interleave k l t opened.now openings.old).answer }
     ensures openings { openings.new ≡ (interleave k l t opened.now openings.old).openings }
 {
-    if !fits(k, l, t, opened, openings) {
-        return 2;
-    }
+    ensure(fits(k, l, t, opened, openings), Refusal::Sizes)?;
     let size = open::opening_size(k as usize);
     in_order(opened, t as usize, l as usize + 1, size, openings);
-    0
+    Ok(())
 }

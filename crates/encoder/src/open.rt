@@ -5,9 +5,12 @@ ghost use Rattle.tree.specs.Layout.{opening_size};
 ghost use Rattle.code.specs.Points.{is_witness_count, depth};
 ghost use Rattle.theory.specs.Checks.{answer};
 ghost use Rattle.theory.specs.Sizes.{points_fit, elements_below, positions_below};
+ghost use Rattle.checks.specs.Refusals.{answer_of};
 ghost use Rattle.theory.specs.Fp.{elements, open_fits, open_checks, openings_of, «open»};
 
-// The bytes of an opening.
+use checks::refusal::{Refusal, ensure};
+
+// The bytes of an opening, for k alone: opening and interleaving have no m and n, of which `Sizes` would be made.
 pub fn opening_size(k: usize) -> usize
     requires { is_witness_count k ≡ true }
     ensures { result ≡ opening_size (depth k) }
@@ -33,39 +36,23 @@ fn fits(k: u32, t: u32, points: &[u8], w: &[u8], positions: &[u8], openings: &[u
 }
 
 // Checks 2, 3, 12 and 6, in this order.
-fn verdict(k: u32, t: u32, points: &[u8], w: &[u8], positions: &[u8], openings: &[u8]) -> u32
-    ensures { result ≡ answer (open_checks k t points.now w.now positions.now openings.now) }
-{
-    if !fits(k, t, points, w, positions, openings) {
-        return 2;
-    }
-    if !checks::elements::elements_below(w, k as usize) {
-        return 3;
-    }
-    if !checks::points::differ(k as usize, points) {
-        return 12;
-    }
-    if !checks::sizes::positions_below(k, positions, t as usize) {
-        return 6;
-    }
-    0
-}
-
-// Writes the openings; values is scratch space for the codeword's numbers.
-fn write_in(
-    k: usize,
-    t: usize,
+fn verdict(
+    k: u32,
+    t: u32,
     points: &[u8],
     w: &[u8],
     positions: &[u8],
-    values: &mut [u32],
-    openings: &mut [u8],
-)
-    requires { (is_witness_count k ≡ true) × (length w.now ≡ 4 * k) × (elements_below w.now ≡ true) × (length positions.now ≡ 4 * t) × (positions_below k positions.now ≡ true) × (length values.old ≡ 4 * k) × (length openings.old ≡ t * opening_size (depth k)) × (points_fit k points.now ≡ true) }
-    ensures { openings.new ≡ openings_of k t points.now (elements k w.now) (numbers positions.now) }
+    openings: &[u8],
+) -> Result<(), Refusal>
+    ensures { answer_of result ≡ answer (open_checks k t points.now w.now positions.now openings.now) }
 {
-    checks::witness::codeword(k, points, w, values);
-    tree::write_openings(values, code::depth_of(k), positions, openings);
+    ensure(fits(k, t, points, w, positions, openings), Refusal::Sizes)?;
+    ensure(checks::elements::elements_below(w), Refusal::Numbers)?;
+    ensure(checks::points::differ(k as usize, points), Refusal::Points)?;
+    ensure(
+        checks::sizes::positions_below(k, positions),
+        Refusal::Positions,
+    )
 }
 
 // Writes the openings.
@@ -73,19 +60,25 @@ fn write(k: usize, t: usize, points: &[u8], w: &[u8], positions: &[u8], openings
     requires { (is_witness_count k ≡ true) × (length w.now ≡ 4 * k) × (elements_below w.now ≡ true) × (length positions.now ≡ 4 * t) × (positions_below k positions.now ≡ true) × (length openings.old ≡ t * opening_size (depth k)) × (points_fit k points.now ≡ true) }
     ensures { openings.new ≡ openings_of k t points.now (elements k w.now) (numbers positions.now) }
 {
-    let mut values = [0u32; 256];
-    write_in(k, t, points, w, positions, &mut values[..4 * k], openings);
+    let mut scratch = [0u32; 256];
+    let values = &mut scratch[..4 * k];
+    checks::witness::codeword(k, points, w, values);
+    tree::write_openings(values, code::depth_of(k), positions, openings);
 }
 
 // Runs checks 2, 3, 12 and 6, and writes the openings of w at the t positions.
-pub fn open(k: u32, t: u32, points: &[u8], w: &[u8], positions: &[u8], openings: &mut [u8]) -> u32
-    ensures answer { result ≡ («open» k t points.now w.now positions.now openings.old).answer }
+pub fn open(
+    k: u32,
+    t: u32,
+    points: &[u8],
+    w: &[u8],
+    positions: &[u8],
+    openings: &mut [u8],
+) -> Result<(), Refusal>
+    ensures answer { answer_of result ≡ («open» k t points.now w.now positions.now openings.old).answer }
     ensures openings { openings.new ≡ («open» k t points.now w.now positions.now openings.old).openings }
 {
-    let answer = verdict(k, t, points, w, positions, openings);
-    if answer != 0 {
-        return answer;
-    }
+    verdict(k, t, points, w, positions, openings)?;
     write(k as usize, t as usize, points, w, positions, openings);
-    0
+    Ok(())
 }

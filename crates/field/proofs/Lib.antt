@@ -1,6 +1,5 @@
 pub mod Laws
 pub mod Chains
-pub mod Product
 pub mod Sum
 pub mod Powers
 pub mod Tables

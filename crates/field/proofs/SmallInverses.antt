@@ -36,7 +36,7 @@ pub small_inverses-by-test : (xs : List ℕ) → length xs ≡ 64 → T (every_e
 unfolding small_inverses
 small_inverses-by-test xs l t = table_of (λ n. val (inv (ofℕ n))) is_inverse is_inverse-sound xs t ∙ ap (λ (n : ℕ). build n (λ n. val (inv (ofℕ n)))) l
 
--- An entry of what `inverses` returns.
+-- An entry of the table.
 pub inverse-at : {table : List ℕ} (n : ℕ) → table ≡ small_inverses → n < 64 → get_or table n 0 ≡ val (inv (ofℕ n))
 unfolding small_inverses
 inverse-at n e h = ap (λ (l : List ℕ). get_or l n 0) e ∙ get_or-build 64 (λ n. val (inv (ofℕ n))) n 0 h

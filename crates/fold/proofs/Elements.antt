@@ -1,11 +1,13 @@
 -- Lists of numbers below p: joined, cut and stored to.
-use mathlib.Core.Path.{◌≡◌, ap, ◌∙◌}
+use mathlib.Core.Path.{◌≡◌, refl, ap, ◌∙◌}
 use mathlib.Core.List.{List, ◌++◌, map}
 use Prim.Native.Nat.{ℕ, ◌+◌, ◌-◌, ◌≤◌, ◌<◌}
 use native.Mathlib.Decide.{ℕ_discrete, dec_lt}
 use native.Mathlib.Omega.{arith}
 use lib.ListN.{length, get_or, take, set, length-set, length-append, get_or-append}
 use lib.Seq.{length-take-le, get_or-take, get_or-append-add, get_or-set_same, get_or-set_other}
+use Rattle.algebra.specs.Lists.{build}
+use Rattle.algebra.proofs.Filling.{Filled, filled-all}
 use Rattle.field.specs.BabyBear.{p, F, val}
 use Rattle.field.specs.Numbers.{Below}
 use Rattle.field.proofs.Numbers.{below-elements}
@@ -37,3 +39,8 @@ below_set xs j v h b k l = go (ℕ_discrete k j)
     go : Dec (k ≡ j) → get_or (set xs j v) k 0 < p
     go (yes e) = rw (e, get_or-set_same xs j v 0 (omega (arith, inside))) h
     go (no e) = rw (get_or-set_other xs j k v 0 e) (b k inside)
+
+-- The front of a list that a loop filled.
+pub filled-front : (f : ℕ → ℕ) (i n : ℕ) (xs : List ℕ) → i ≡ n → n ≤ length xs → Filled f i xs → take n xs ≡ build n f
+filled-front f i n xs e l r =
+    filled-all f n n (take n xs) refl (length-take-le n xs l) (λ k h. get_or-take n xs k 0 h ∙ r k (omega arith))

@@ -1,22 +1,18 @@
--- The factors of L_i, of Z and of its inverse, by differences of small numbers and the table of their inverses.
+-- The factors of L_i, of Z and of its inverse, by differences of small numbers and their inverses.
 use mathlib.Core.Path.{◌≡◌, refl, sym, ap, ap₂, ◌∙◌}
 use mathlib.Core.Logic.{◌≢◌}
 use mathlib.Core.Bool.{Bool, true, false}
-use mathlib.Core.List.{List, [], ◌∷◌}
+use mathlib.Core.List.{[], ◌∷◌}
 use Prim.Native.Nat.{ℕ, ◌-◌, ◌≤◌, ◌<◌}
 use native.Mathlib.Nat.{sub-add_cancel}
 use native.Mathlib.Omega.{arith}
 use lib.Dec.{T, eqb, eqb→eq, eqb_refl}
-use lib.ListN.{length, get_or}
 use Rattle.algebra.specs.Sums.{prod_to}
 use Rattle.algebra.specs.Lagrange.{factor}
-use Rattle.algebra.proofs.ListLaws.{length-build}
 use Rattle.algebra.proofs.Solver.{x₀, x₁, x₂, ◌:+◌, ◌:*◌, ◌:-◌, :-◌, num, ring-eq, ring-from}
 use Rattle.algebra.proofs.FieldLaws.{inv_unique}
 use Rattle.field.specs.BabyBear.{p, baby_bear, R, F, val, ofℕ, inv, 𝟘, ⊝◌, ◌⊖◌, ◌⊗◌}
-use Rattle.field.specs.Inverses.{small_inverses}
 use Rattle.field.proofs.Laws.{val-one, ofℕ-of, ofℕ-add, of_nat-ofℕ, ofℕ-nonzero}
-use Rattle.field.proofs.SmallInverses.{inverse-at}
 use Rattle.theory.specs.Combination.{node, Z}
 use Rattle.fold.proofs.Products.{prod-build, prod_to-inv}
 
@@ -28,14 +24,9 @@ difference i j h = ring-from R (ofℕ (i - j) ∷ ofℕ i ∷ ofℕ j ∷ []) x�
 differ : (i j : ℕ) → j < i → i < p → ofℕ i ⊖ ofℕ j ≢ 𝟘
 differ i j h k e = ofℕ-nonzero {n = i - j} (omega arith) (omega arith) (difference i j (omega arith) ∙ e)
 
-module _ {table : List ℕ} (small : table ≡ small_inverses) where
-  pub inverses-length : length table ≡ 64
-  unfolding small_inverses
-  inverses-length = ap length small ∙ length-build 64 (λ n. val (inv (ofℕ n)))
-
-  -- An entry of the table is the inverse of a difference.
-  pub inverse-difference : (i j : ℕ) → j ≤ i → i < 64 → ofℕ (get_or table (i - j) 0) ≡ inv (ofℕ i ⊖ ofℕ j)
-  inverse-difference i j h k = ofℕ-of (inv (ofℕ (i - j))) (inverse-at (i - j) small (omega arith)) ∙ ap inv (difference i j h)
+-- The inverse of i - j is that of the difference of their elements.
+pub inverse-difference : {y : ℕ} (i j : ℕ) → j ≤ i → y ≡ val (inv (ofℕ (i - j))) → ofℕ y ≡ inv (ofℕ i ⊖ ofℕ j)
+inverse-difference i j h e = ofℕ-of (inv (ofℕ (i - j))) e ∙ ap inv (difference i j h)
 
 -- ---- the factors of L_i
 eqb-false : (i j : ℕ) → (i ≡ j → ⊥) → eqb i j ≡ false
@@ -71,13 +62,13 @@ opposites i j a h = ring-eq R (a ∷ j ∷ inv (j ⊖ i) ∷ []) ((x₁ :- x₀)
     inverse = inv_unique baby_bear (i ⊖ j) (⊝ inv (j ⊖ i))
         (ring-from R (i ∷ j ∷ inv (j ⊖ i) ∷ []) ((x₀ :- x₁) :* (:- x₂)) (num 1) ((num 1, (x₁ :- x₀) :* x₂, num 1) ∷ []) (baby_bear.mul-inv (j ⊖ i) h, tt) tt)
 
-module _ {table : List ℕ} (small : table ≡ small_inverses) (i j a s r : ℕ) where
-  pub factor-below : j < i → i < 64 → s ≡ val (ofℕ a ⊖ ofℕ j) → r ≡ val (ofℕ s ⊗ ofℕ (get_or table (i - j) 0)) → r ≡ val (factor_of i a j)
-  factor-below h k d e = e ∙ ap₂ (λ (x y : F). val (x ⊗ y)) (ofℕ-of (ofℕ a ⊖ ofℕ j) d) (inverse-difference small i j (omega arith) k) ∙ factor-other i j a (λ q. omega arith)
+module _ (i j a : ℕ) {s y r : ℕ} where
+  pub factor-below : j < i → s ≡ val (ofℕ a ⊖ ofℕ j) → y ≡ val (inv (ofℕ (i - j))) → r ≡ val (ofℕ s ⊗ ofℕ y) → r ≡ val (factor_of i a j)
+  factor-below h d ey e = e ∙ ap₂ (λ (x y : F). val (x ⊗ y)) (ofℕ-of (ofℕ a ⊖ ofℕ j) d) (inverse-difference i j (omega arith) ey) ∙ factor-other i j a (λ q. omega arith)
 
-  pub factor-above : i < j → j < 64 → s ≡ val (ofℕ j ⊖ ofℕ a) → r ≡ val (ofℕ s ⊗ ofℕ (get_or table (j - i) 0)) → r ≡ val (factor_of i a j)
-  factor-above h k d e = e ∙ ap₂ (λ (x y : F). val (x ⊗ y)) (ofℕ-of (ofℕ j ⊖ ofℕ a) d) (inverse-difference small j i (omega arith) k)
-      ∙ ap val (opposites (ofℕ i) (ofℕ j) (ofℕ a) (differ j i h (omega arith))) ∙ factor-other i j a (λ q. omega arith)
+  pub factor-above : i < j → j < p → s ≡ val (ofℕ j ⊖ ofℕ a) → y ≡ val (inv (ofℕ (j - i))) → r ≡ val (ofℕ s ⊗ ofℕ y) → r ≡ val (factor_of i a j)
+  factor-above h k d ey e = e ∙ ap₂ (λ (x y : F). val (x ⊗ y)) (ofℕ-of (ofℕ j ⊖ ofℕ a) d) (inverse-difference j i (omega arith) ey)
+      ∙ ap val (opposites (ofℕ i) (ofℕ j) (ofℕ a) (differ j i h k)) ∙ factor-other i j a (λ q. omega arith)
 
 -- ---- the factors of Z and of its inverse
 pub vanishing-factor : (a j s : ℕ) → s ≡ val (ofℕ a ⊖ ofℕ j) → s ≡ val (ofℕ a ⊖ node baby_bear j)
@@ -86,11 +77,11 @@ vanishing-factor a j s e = e ∙ ap (λ (x : F). val (ofℕ a ⊖ x)) (sym (of_n
 pub vanishing-product : (l : ℕ) (x : F) → prod_to R l (λ j. x ⊖ node baby_bear j) ≡ Z baby_bear l x
 vanishing-product l x = sym (prod-build R (λ a. x ⊖ a) l (node baby_bear))
 
-module _ {table : List ℕ} (small : table ≡ small_inverses) (n : ℕ) (few : n < 64) where
-  pub inverse-factor : (j : ℕ) → j ≤ n → get_or table (n - j) 0 ≡ val (inv (ofℕ n ⊖ node baby_bear j))
-  inverse-factor j h = inverse-at (n - j) small (omega arith) ∙ ap (λ (x : F). val (inv x)) (difference n j h ∙ ap (λ (x : F). ofℕ n ⊖ x) (sym (of_nat-ofℕ j)))
+module _ (n : ℕ) where
+  pub inverse-factor : {y : ℕ} (j : ℕ) → j ≤ n → y ≡ val (inv (ofℕ (n - j))) → y ≡ val (inv (ofℕ n ⊖ node baby_bear j))
+  inverse-factor j h e = e ∙ ap (λ (x : F). val (inv x)) (difference n j h ∙ ap (λ (x : F). ofℕ n ⊖ x) (sym (of_nat-ofℕ j)))
 
-  pub inverse-product : (l : ℕ) → l ≤ n → prod_to R l (λ j. inv (ofℕ n ⊖ node baby_bear j)) ≡ inv (Z baby_bear l (ofℕ n))
-  inverse-product l h = sym (prod_to-inv baby_bear l (λ j. ofℕ n ⊖ node baby_bear j)
+  pub inverse-product : (l : ℕ) → l ≤ n → n < p → prod_to R l (λ j. inv (ofℕ n ⊖ node baby_bear j)) ≡ inv (Z baby_bear l (ofℕ n))
+  inverse-product l h few = sym (prod_to-inv baby_bear l (λ j. ofℕ n ⊖ node baby_bear j)
       (λ j k e. differ n j (omega arith) (omega arith) (ap (λ (x : F). ofℕ n ⊖ x) (sym (of_nat-ofℕ j)) ∙ e)))
       ∙ ap inv (vanishing-product l (ofℕ n))

@@ -14,7 +14,6 @@ use Rattle.theory.specs.R1cs.{weighted_sum}
 use Rattle.theory.specs.Combination.{L, mix, mix_lists, item_at, new_r, new_x, new_w, mix_e, combined_value}
 use Rattle.theory.specs.Fp.{element_at, circuit, item_size, read_items, read_witness}
 use Rattle.fold.specs.Weights.{lagrange_at, weighted, weighted_from}
-use Rattle.fold.specs.Fits.{Fits}
 use Rattle.fold.proofs.Reading.{length-items, numbers-first, item-inside, item-e, item-r, item-x, witness-w}
 
 -- ---- sums for numbers from a place on
@@ -79,11 +78,11 @@ module _ (l at : ℕ) {weights : List ℕ} (w : weights ≡ lagrange_at l at) wh
   mixed-w k wits sized = weighted_from-mix wits k 0 k (read_witness k wits) (witness-w k l wits sized)
 
   -- The value at the combined r, x and w.
-  pub combined-is : {m n k : ℕ} {a b c items wits r z : List ℕ} → Fits m n k l a b c items wits → (stride : ℕ) → 4 * stride ≡ item_size m n → r ≡ weighted_from weights items stride 1 m
+  pub combined-is : (m n k : ℕ) (a b c items wits : List ℕ) {r z : List ℕ} → length items ≡ l * item_size m n → length wits ≡ l * (4 * k) → (stride : ℕ) → 4 * stride ≡ item_size m n → r ≡ weighted_from weights items stride 1 m
       → z ≡ weighted_from weights items stride (1 + m) n ++ weighted_from weights wits k 0 k
       → val (weighted_sum R (circuit a b c) (map ofℕ r) (map ofℕ z)) ≡ val (combined_value baby_bear (circuit a b c) m n k (read_items m n l items) (read_witness k wits) (ofℕ at))
-  combined-is {m} {n} {k} {a} {b} {c} {items} {wits} f stride layout er ez =
-      ap₂ (λ (s t : List F). val (weighted_sum R (circuit a b c) s t)) (ap (map ofℕ) er ∙ mixed_r m n stride items layout f.items-size)
+  combined-is m n k a b c items wits sized wits_sized stride layout er ez =
+      ap₂ (λ (s t : List F). val (weighted_sum R (circuit a b c) s t)) (ap (map ofℕ) er ∙ mixed_r m n stride items layout sized)
       (ap (map ofℕ) ez ∙ map-append ofℕ (weighted_from weights items stride (1 + m) n) (weighted_from weights wits k 0 k)
-      ∙ ap₂ (λ (s t : List F). s ++ t) (mixed-x m n stride items layout f.items-size)
-      (mixed-w k wits f.wits-size ∙ ap (λ (s : ℕ). new_w baby_bear k s (read_witness k wits) (ofℕ at)) (sym (length-items m n l items))))
+      ∙ ap₂ (λ (s t : List F). s ++ t) (mixed-x m n stride items layout sized)
+      (mixed-w k wits wits_sized ∙ ap (λ (s : ℕ). new_w baby_bear k s (read_witness k wits) (ofℕ at)) (sym (length-items m n l items))))

@@ -11,7 +11,6 @@ use Rattle.algebra.specs.Interpolation.{slopes, step}
 use Rattle.algebra.proofs.ListLaws.{length-build, get_or-build}
 use Rattle.algebra.proofs.Solver.{x₀, x₁, x₂, ◌:+◌, ◌:*◌, ◌:-◌, :-◌, ring-eq}
 use Rattle.field.specs.BabyBear.{p, baby_bear, F, val, ofℕ, R, inv, ◌⊕◌, ⊝◌, ◌⊖◌, ◌⊗◌}
-use Rattle.field.specs.Inverses.{small_inverses}
 use Rattle.field.proofs.Laws.{val-small, ofℕ-of}
 use Rattle.fold.specs.Newton.{slopes_from, expand_from}
 use Rattle.fold.proofs.Factors.{inverse-difference}
@@ -36,9 +35,9 @@ module _ (i v : ℕ) where
   abbrev pub slopes_left : ℕ → List ℕ → List ℕ
   slopes_left j xs = take j xs ++ map val (slopes_at j xs)
 
-  pub slopes-more : {table : List ℕ} → table ≡ small_inverses → (j : ℕ) (xs : List ℕ) (d s : ℕ) → i ≤ j → j < length xs → j < 64
-      → d ≡ val (ofℕ (get_or xs j 0) ⊖ ofℕ v) → s ≡ val (ofℕ d ⊗ ofℕ (get_or table (j - i) 0)) → slopes_left (j + 1) (set xs j s) ≡ slopes_left j xs
-  slopes-more {table} small j xs d s h l k e f = front-set xs j s (map val (slopes_of (length (set xs j s)) (drop (j + 1) (set xs j s)))) l
+  pub slopes-more : (j : ℕ) (xs : List ℕ) {d y s : ℕ} → i ≤ j → j < length xs
+      → d ≡ val (ofℕ (get_or xs j 0) ⊖ ofℕ v) → y ≡ val (inv (ofℕ (j - i))) → s ≡ val (ofℕ d ⊗ ofℕ y) → slopes_left (j + 1) (set xs j s) ≡ slopes_left j xs
+  slopes-more j xs {d} {y} {s} h l e ey f = front-set xs j s (map val (slopes_of (length (set xs j s)) (drop (j + 1) (set xs j s)))) l
       ∙ ap₂ (λ (n : ℕ) (ys : List ℕ). take j xs ++ s ∷ map val (slopes_of n ys)) (length-set xs j s) (drop-set-lt (j + 1) xs j s (omega arith))
       ∙ ap (λ (x : ℕ). take j xs ++ x ∷ map val (slopes_of (length xs) (drop (j + 1) xs))) slope
       ∙ ap₂ (λ (ps : List F) (ys : List ℕ). take j xs ++ map val (slopes baby_bear (ofℕ i) (ofℕ v) ps (map ofℕ ys))) (sym (drop-build (length xs) ofℕ j l)) (sym (rest xs j l))
@@ -47,7 +46,7 @@ module _ (i v : ℕ) where
       slopes_of n ys = slopes baby_bear (ofℕ i) (ofℕ v) (drop (j + 1) (build n ofℕ)) (map ofℕ ys)
 
       slope : s ≡ val ((ofℕ (get_or xs j 0) ⊖ ofℕ v) ⊗ inv (ofℕ j ⊖ ofℕ i))
-      slope = f ∙ ap₂ (λ (a b : F). val (a ⊗ b)) (ofℕ-of (ofℕ (get_or xs j 0) ⊖ ofℕ v) e) (inverse-difference small j i h k)
+      slope = f ∙ ap₂ (λ (a b : F). val (a ⊗ b)) (ofℕ-of (ofℕ (get_or xs j 0) ⊖ ofℕ v) e) (inverse-difference j i h ey)
 
   pub slopes-all : (j : ℕ) (xs : List ℕ) → length xs ≤ j → slopes_left j xs ≡ xs
   slopes-all j xs h = ap₂ (λ (s : List ℕ) (ps : List F). s ++ map val (slopes baby_bear (ofℕ i) (ofℕ v) ps (map ofℕ (drop j xs)))) (take_all j xs h)

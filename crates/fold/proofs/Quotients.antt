@@ -1,103 +1,93 @@
 -- The quotient's values outside the nodes, and its coefficients.
-use mathlib.Core.Path.{◌≡◌, sym, ap, ap₂, subst, ◌∙◌}
+use mathlib.Core.Path.{◌≡◌, sym, ap, ap₂, ◌∙◌}
 use mathlib.Core.List.{List, map}
-use Prim.Native.Nat.{ℕ, ◌+◌, ◌*◌, ◌-◌, ◌≤◌}
+use Prim.Native.Nat.{ℕ, ◌+◌, ◌-◌, ◌≤◌, ◌<◌}
 use native.Mathlib.Nat.{mul-le-mul}
 use native.Mathlib.Omega.{arith}
 use lib.ListN.{length, get_or}
 use Rattle.algebra.specs.Lists.{build}
 use Rattle.algebra.specs.Polynomial.{eval_poly}
 use Rattle.algebra.specs.Interpolation.{interpolate}
-use Rattle.algebra.proofs.ListLaws.{length-build, get_or-build, build-cong, map-build}
-use Rattle.field.specs.BabyBear.{baby_bear, R, F, val, ofℕ, inv, ◌⊕◌, ◌⊖◌, ◌⊗◌}
+use Rattle.algebra.proofs.ListLaws.{get_or-build, build-cong, map-build}
+use Rattle.field.specs.BabyBear.{p, baby_bear, R, F, val, ofℕ, inv, ◌⊕◌, ◌⊖◌, ◌⊗◌}
 use Rattle.field.specs.Numbers.{Below}
-use Rattle.field.specs.Inverses.{small_inverses}
 use Rattle.field.proofs.Laws.{ofℕ-val, below-p, of_nat-ofℕ}
 use Rattle.field.proofs.Chains.{sum_of, difference-of, product-of}
 use Rattle.code.specs.Codeword.{value_at}
 use Rattle.code.proofs.Evaluation.{value_at-eval_poly}
 use Rattle.theory.specs.Combination.{node, Z, mix_e, new_e, combined_value, quotient_size, quotient_of}
-use Rattle.theory.specs.Fp.{circuit, item_size, read_items, read_witness}
-use Rattle.fold.specs.Weights.{lagrange_at, weighted}
-use Rattle.fold.specs.Fits.{Fits, quotient_at}
+use Rattle.theory.specs.Fp.{circuit, read_items, read_witness}
+use Rattle.r1cs.specs.declared.list.List.{List as Listed}
+use Rattle.fold.specs.Fits.{quotient_at}
 use Rattle.fold.proofs.Reading.{length-items}
-use Rattle.fold.proofs.Mixing.{length-weights, mixed-e}
 
 pub quotient_size-most : (m l : ℕ) → m ≤ 6 → l ≤ 8 → quotient_size m l ≤ 49
 quotient_size-most m l h g = mul-le-mul {n₁ = l - 1} {m₁ = m + 1} {n₂ = 7} {m₂ = 7} (omega arith) (omega arith)
 
-module _ (m n k l : ℕ) (a b c items wits : List ℕ) where
-  abbrev at : F → F
-  at = quotient_at m n k l a b c items wits
+-- The quotient of a list at a point, and its numbers at l, l + 1, ..
+abbrev at : Listed → F → F
+at s = quotient_at s.sizes.m s.sizes.n s.sizes.k s.l s.circuit.a.now s.circuit.b.now s.circuit.c.now s.items.now s.wits.now
 
-  -- The values at l, l + 1, ..
-  abbrev pub value : ℕ → ℕ
-  value i = val (at (ofℕ (l + i)))
+abbrev pub value : Listed → ℕ → ℕ
+value s i = val (at s (ofℕ (s.l + i)))
 
-  pub values-below : {values : List ℕ} (s : ℕ) → values ≡ build s value → Below values
-  values-below s e i h = below-p (at (ofℕ (l + i))) (ap (λ (vs : List ℕ). get_or vs i 0) e ∙ get_or-build s value i 0 (omega (arith, ap length e, length-build s value)))
+module _ (s : Listed) {values : List ℕ} (size : length values ≡ quotient_size s.sizes.m s.l) (filled : values ≡ build (length values) (value s)) where
+  -- What interpolating the values asks for.
+  pub values-fit : (length values < 64) × (s.l + length values ≤ p) × Below values
+  values-fit =
+      let few : length values ≤ 49 = omega (arith, size, quotient_size-most s.sizes.m s.l s.sizes.m_most s.l_most) in (
+        omega (arith, few),
+        omega (arith, few),
+        λ i h. below-p (at s (ofℕ (s.l + i))) (ap (λ (vs : List ℕ). get_or vs i 0) filled ∙ get_or-build (length values) (value s) i 0 h),
+      )
 
-  pub quotient_is : {values : List ℕ} → values ≡ build (quotient_size m l) value
-      → map val (interpolate baby_bear (build (length values) (λ i. ofℕ (l + i))) (map ofℕ values))
-      ≡ map val (quotient_of baby_bear (circuit a b c) m n k (read_items m n l items) (read_witness k wits))
+  pub quotient_is : map val (interpolate baby_bear (build (length values) (λ i. ofℕ (s.l + i))) (map ofℕ values))
+      ≡ map val (quotient_of baby_bear (circuit s.circuit.a.now s.circuit.b.now s.circuit.c.now) s.sizes.m s.sizes.n s.sizes.k (read_items s.sizes.m s.sizes.n s.l s.items.now) (read_witness s.sizes.k s.wits.now))
   unfolding quotient_of
-  quotient_is {values} e =
+  quotient_is =
       ap (map val) (ap₂ (interpolate baby_bear)
-      (ap (λ (s : ℕ). build s (λ i. ofℕ (l + i))) (ap length e ∙ length-build (quotient_size m l) value) ∙ points)
-      (ap (map ofℕ) e ∙ map-build ofℕ (quotient_size m l) value ∙ build-cong (quotient_size m l) (λ i. ofℕ (value i)) (λ i. at (node baby_bear (l + i))) (λ i h. ofℕ-val (at (ofℕ (l + i))) ∙ ap at (sym (of_nat-ofℕ (l + i))))
-      ∙ sym (map-build at (quotient_size m l) (λ i. node baby_bear (l + i))))
-      ∙ ap (λ (s : ℕ). interpolate baby_bear (build (quotient_size m s) (λ i. node baby_bear (s + i))) (map (over s) (build (quotient_size m s) (λ i. node baby_bear (s + i))))) (sym (length-items m n l items)))
+      (ap (λ (t : ℕ). build t (λ i. ofℕ (s.l + i))) size ∙ points)
+      (ap (map ofℕ) (filled ∙ ap (λ (t : ℕ). build t (value s)) size)
+      ∙ map-build ofℕ count (value s) ∙ build-cong count (λ i. ofℕ (value s i)) (λ i. at s (node baby_bear (s.l + i))) (λ i h. ofℕ-val (at s (ofℕ (s.l + i))) ∙ ap (at s) (sym (of_nat-ofℕ (s.l + i))))
+      ∙ sym (map-build (at s) count (λ i. node baby_bear (s.l + i))))
+      ∙ ap (λ (t : ℕ). interpolate baby_bear (build (quotient_size s.sizes.m t) (λ i. node baby_bear (t + i))) (map (over t) (build (quotient_size s.sizes.m t) (λ i. node baby_bear (t + i))))) (sym (length-items s.sizes.m s.sizes.n s.l s.items.now)))
     where
-      -- The same with Z over s nodes.
+      count : ℕ
+      count = quotient_size s.sizes.m s.l
+
+      -- The same with Z over t nodes.
       over : ℕ → F → F
-      over s x =
-          (combined_value baby_bear (circuit a b c) m n k (read_items m n l items) (read_witness k wits) x ⊖ mix_e baby_bear (read_items m n l items) x) ⊗ inv (Z baby_bear s x)
+      over t x =
+          (combined_value baby_bear (circuit s.circuit.a.now s.circuit.b.now s.circuit.c.now) s.sizes.m s.sizes.n s.sizes.k (read_items s.sizes.m s.sizes.n s.l s.items.now) (read_witness s.sizes.k s.wits.now) x ⊖ mix_e baby_bear (read_items s.sizes.m s.sizes.n s.l s.items.now) x) ⊗ inv (Z baby_bear t x)
 
-      points : build (quotient_size m l) (λ i. ofℕ (l + i)) ≡ build (quotient_size m l) (λ i. node baby_bear (l + i))
-      points = build-cong (quotient_size m l) (λ i. ofℕ (l + i)) (λ i. node baby_bear (l + i)) (λ i h. sym (of_nat-ofℕ (l + i)))
+      points : build count (λ i. ofℕ (s.l + i)) ≡ build count (λ i. node baby_bear (s.l + i))
+      points = build-cong count (λ i. ofℕ (s.l + i)) (λ i. node baby_bear (s.l + i)) (λ i h. sym (of_nat-ofℕ (s.l + i)))
 
--- ---- the inverses of the small numbers
+-- ---- one value
 
-pub inverses-many : {inverses : List ℕ} → inverses ≡ small_inverses → 64 ≡ length inverses
-unfolding small_inverses
-inverses-many e = sym (ap length e)
+pub quotient-value-is : (m n k l : ℕ) (a b c items wits : List ℕ) (i : ℕ) {s at value mixed difference inverse result : ℕ} → s ≡ l → at ≡ l + i
+    → value ≡ val (combined_value baby_bear (circuit a b c) m n k (read_items m n l items) (read_witness k wits) (ofℕ at))
+    → mixed ≡ val (mix_e baby_bear (read_items m n s items) (ofℕ at)) → difference ≡ val (ofℕ value ⊖ ofℕ mixed)
+    → inverse ≡ val (inv (Z baby_bear l (ofℕ (l + i)))) → result ≡ val (ofℕ difference ⊗ ofℕ inverse)
+    → result ≡ val (quotient_at m n k l a b c items wits (ofℕ (l + i)))
+quotient-value-is m n k l a b c items wits i es ea ev em ed ei er =
+    product-of (combined (l + i) ⊖ mixes l (l + i)) (inv (Z baby_bear l (ofℕ (l + i))))
+    (difference-of (combined (l + i)) (mixes l (l + i)) (ev ∙ ap (λ (x : ℕ). val (combined x)) ea) (em ∙ ap₂ (λ (t x : ℕ). val (mixes t x)) es ea) ed) ei er
+  where
+    combined : ℕ → F
+    combined x = combined_value baby_bear (circuit a b c) m n k (read_items m n l items) (read_witness k wits) (ofℕ x)
 
--- ---- one value, with the weights in a scratch list that was w₀
-
-module _ {m n k l : ℕ} {a b c items wits : List ℕ} (f : Fits m n k l a b c items wits) (at : ℕ) (w₀ : List ℕ) {weights : List ℕ} (h : length w₀ ≡ l) (e : weights ≡ lagrange_at (length w₀) at) where
-  pub weights-are : weights ≡ lagrange_at l at
-  weights-are = e ∙ ap (λ (s : ℕ). lagrange_at s at) h
-
-  weights-many : length weights ≡ l
-  weights-many = length-weights l at weights-are
-
-  pub weights-fit : Fits m n k (length weights) a b c items wits × (weights ≡ lagrange_at (length weights) at)
-  weights-fit = (
-    subst (λ (s : ℕ). Fits m n k s a b c items wits) (sym weights-many) f,
-    weights-are ∙ ap (λ (s : ℕ). lagrange_at s at) (sym weights-many),
-  )
-
-  pub quotient-value-is : (stride : ℕ) → 4 * stride ≡ item_size m n → {value mixed difference inverse result : ℕ}
-      → value ≡ val (combined_value baby_bear (circuit a b c) m n k (read_items m n (length weights) items) (read_witness k wits) (ofℕ at))
-      → mixed ≡ val (weighted weights items stride 0) → difference ≡ val (ofℕ value ⊖ ofℕ mixed) → inverse ≡ val (inv (Z baby_bear l (ofℕ at)))
-      → result ≡ val (ofℕ difference ⊗ ofℕ inverse) → result ≡ val (quotient_at m n k l a b c items wits (ofℕ at))
-  quotient-value-is stride layout ev em ed ei er =
-      product-of (combined ⊖ mix_e baby_bear (read_items m n l items) (ofℕ at)) (inv (Z baby_bear l (ofℕ at)))
-      (difference-of combined (mix_e baby_bear (read_items m n l items) (ofℕ at))
-      (ev ∙ ap (λ (s : ℕ). val (combined_value baby_bear (circuit a b c) m n k (read_items m n s items) (read_witness k wits) (ofℕ at))) weights-many)
-      (em ∙ ap val (mixed-e l at weights-are m n stride items layout f.items-size)) ed) ei er
-    where
-      combined : F
-      combined = combined_value baby_bear (circuit a b c) m n k (read_items m n l items) (read_witness k wits) (ofℕ at)
+    mixes : ℕ → ℕ → F
+    mixes t x = mix_e baby_bear (read_items m n t items) (ofℕ x)
 
 -- ---- the new e
 
-pub new-e-is : (m n l stride at : ℕ) (items quotient : List ℕ) {weights : List ℕ} → 4 * stride ≡ item_size m n → length items ≡ l * item_size m n → weights ≡ lagrange_at l at → {mixed vanishing value product result : ℕ}
-    → mixed ≡ val (weighted weights items stride 0) → vanishing ≡ val (Z baby_bear l (ofℕ at)) → value ≡ val (value_at R (map ofℕ quotient) (ofℕ at))
+pub new-e-is : (m n l at : ℕ) (items quotient : List ℕ) {mixed vanishing value product result : ℕ}
+    → mixed ≡ val (mix_e baby_bear (read_items m n l items) (ofℕ at)) → vanishing ≡ val (Z baby_bear l (ofℕ at)) → value ≡ val (value_at R (map ofℕ quotient) (ofℕ at))
     → product ≡ val (ofℕ vanishing ⊗ ofℕ value) → result ≡ val (ofℕ mixed ⊕ ofℕ product)
     → result ≡ val (new_e baby_bear (read_items m n l items) (map ofℕ quotient) (ofℕ at))
-new-e-is m n l stride at items quotient layout sized w em ez ev ep er =
-    sum_of mixes (Z baby_bear l (ofℕ at) ⊗ here) (em ∙ ap val (mixed-e l at w m n stride items layout sized))
+new-e-is m n l at items quotient em ez ev ep er =
+    sum_of mixes (Z baby_bear l (ofℕ at) ⊗ here) em
     (product-of (Z baby_bear l (ofℕ at)) here ez (ev ∙ ap val (value_at-eval_poly R (map ofℕ quotient) (ofℕ at))) ep) er
     ∙ ap (λ (s : ℕ). val (mixes ⊕ Z baby_bear s (ofℕ at) ⊗ here)) (sym (length-items m n l items))
   where

@@ -1,21 +1,12 @@
--- The sizes that a list of items, its witnesses and its circuit have (paper 01, check 2), and that the circuit's entries are inside.
-use Rattle.std.specs.Prelude.{◌≡◌, List, ℕ, ◌+◌, ◌*◌, ◌≤◌, length}
+-- Where the entries of a list's circuit lie, and the quotient's values.
+use Rattle.std.specs.Prelude.{List, ℕ, ◌+◌}
 use Rattle.r1cs.specs.Rows.{EntriesInside}
 use Rattle.field.specs.BabyBear.{baby_bear, F, inv, ◌⊖◌, ◌⊗◌}
 use Rattle.theory.specs.Combination.{Z, mix_e, combined_value}
-use Rattle.theory.specs.Fp.{circuit, item_size, read_items, read_witness}
+use Rattle.theory.specs.Fp.{circuit, read_items, read_witness}
 
--- l items with m numbers r and n numbers x, l witnesses of k numbers, and matrices a, b and c over n + k columns.
-pub record Fits (m n k l : ℕ) (a b c items wits : List ℕ) : Type 0 where
-  pub m-most : m ≤ 6
-  pub n-least : 1 ≤ n
-  pub n-most : n ≤ 64
-  pub k-least : 1 ≤ k
-  pub k-most : k ≤ 64
-  pub l-least : 1 ≤ l
-  pub l-most : l ≤ 8
-  pub items-size : length items ≡ l * item_size m n
-  pub wits-size : length wits ≡ l * (4 * k)
+-- The entries of the matrices a, b and c are inside 64 rows and n + k columns.
+pub record Fits (n k : ℕ) (a b c : List ℕ) : Type 0 where
   pub inside-a : EntriesInside 64 (n + k) a
   pub inside-b : EntriesInside 64 (n + k) b
   pub inside-c : EntriesInside 64 (n + k) c

@@ -9,13 +9,9 @@ pub fn weighted(weights: &[u32], buffer: &[u8], stride: usize, at: usize) -> u32
     ensures { result ≡ val (weighted weights.now buffer.now stride at) }
 {
     let mut sum: u32 = 0;
-    let mut i = 0;
-    while i < weights.len() {
-        sum = field::add(
-            sum,
-            field::mul(weights[i], numbers::get(buffer, i * stride + at)),
-        );
-        i += 1;
+    for (i, weight) in weights.iter().enumerate() {
+        let term = field::mul(*weight, numbers::get(buffer, i * stride + at));
+        sum = field::add(sum, term);
     }
     sum
 }
@@ -25,9 +21,7 @@ pub fn combine(weights: &[u32], buffer: &[u8], stride: usize, at: usize, out: &m
     requires { (0 < length weights.now) × ((i : ℕ) → i < length weights.now → 4 * (i * stride + at + length out.old) ≤ length buffer.now) }
     ensures { out.new ≡ weighted_from weights.now buffer.now stride at (length out.old) }
 {
-    let mut b = 0;
-    while b < out.len() {
-        out[b] = weighted(weights, buffer, stride, at + b);
-        b += 1;
+    for (b, sum) in out.iter_mut().enumerate() {
+        *sum = weighted(weights, buffer, stride, at + b);
     }
 }

@@ -4,19 +4,18 @@ ghost use Rattle.algebra.specs.Lists.{build};
 ghost use Rattle.algebra.specs.Interpolation.{interpolate};
 ghost use Rattle.field.specs.BabyBear.{baby_bear, p, val, ofℕ};
 ghost use Rattle.field.specs.Numbers.{Below};
-ghost use Rattle.field.specs.Inverses.{small_inverses};
 ghost use Rattle.fold.specs.Newton.{slopes_from, expand_from};
 
+use field::Inverses;
+
 // One step of the divided differences: behind index i, each value becomes the slope from value i to it.
-fn slopes(i: usize, inverses: &[u32], values: &mut [u32])
-    requires { (i < length values.old) × (length values.old < 64) × Below values.old × (inverses.now ≡ small_inverses) }
+fn slopes(i: usize, inverses: &Inverses, values: &mut [u32])
+    requires { (i < length values.old) × (length values.old < 64) × Below values.old }
     ensures { values.new ≡ slopes_from i values.old }
 {
     let v = values[i];
-    let mut j = i + 1;
-    while j < values.len() {
-        values[j] = field::mul(field::sub(values[j], v), inverses[j - i]);
-        j += 1;
+    for j in i + 1..values.len() {
+        values[j] = field::mul(field::sub(values[j], v), inverses.of(j - i));
     }
 }
 
@@ -25,26 +24,21 @@ fn expand(i: usize, a: u32, values: &mut [u32])
     requires { (i < length values.old) × Below values.old }
     ensures { values.new ≡ expand_from i a values.old }
 {
-    let mut j = i;
-    while j + 1 < values.len() {
+    for j in i..values.len() - 1 {
         values[j] = field::sub(values[j], field::mul(a, values[j + 1]));
-        j += 1;
     }
 }
 
 // Turns the values at first, first + 1, .. into the coefficients of the polynomial that takes them.
-pub fn interpolate(first: u32, inverses: &[u32], values: &mut [u32])
-    requires { (length values.old < 64) × (first + length values.old ≤ p) × Below values.old × (inverses.now ≡ small_inverses) }
+pub fn interpolate(first: u32, inverses: &Inverses, values: &mut [u32])
+    requires { (length values.old < 64) × (first + length values.old ≤ p) × Below values.old }
     ensures { values.new ≡ map val (interpolate baby_bear (build (length values.old) (λ i. ofℕ (first + i))) (map ofℕ values.old)) }
 {
     let n = values.len();
-    let mut i = 0;
-    while i < n {
+    for i in 0..n {
         slopes(i, inverses, values);
-        i += 1;
     }
-    while 0 < i {
-        i -= 1;
+    for i in (0..n).rev() {
         expand(i, first + (i as u32), values);
     }
 }

@@ -1,27 +1,25 @@
 // The numbers of the new item at a challenge: e, r and x.
-ghost use Rattle.std.specs.Prelude.{◌≡◌, ◌∷◌, ◌++◌, map, ◌+◌, ◌*◌, ◌≤◌, ◌<◌, length};
-ghost use Rattle.field.specs.BabyBear.{baby_bear, p, val, ofℕ};
+ghost use Rattle.std.specs.Prelude.{◌≡◌, ◌∷◌, ◌++◌, map, ◌+◌, ◌*◌, ◌≤◌, length};
+ghost use Rattle.field.specs.BabyBear.{baby_bear, val, ofℕ};
 ghost use Rattle.field.specs.Numbers.{Below};
 ghost use Rattle.theory.specs.Combination.{new_e, new_r, new_x};
 ghost use Rattle.theory.specs.Fp.{item_size, read_items};
-ghost use Rattle.fold.specs.Weights.{lagrange_at};
 
-// Fills out with the new e, r and x; from one item to the next are `stride` numbers. The combination of the items' numbers has the
-// sum of L_i × e_i where e belongs.
+use crate::basis::Weights;
+use crate::{combine, quotient};
+use r1cs::sizes::Sizes;
+
+// Fills out with the new e, r and x. The combination of the items' numbers has the sum of L_i × e_i where e belongs.
 pub fn new_numbers(
-    m: usize,
-    n: usize,
-    l: usize,
-    stride: usize,
-    at: u32,
-    weights: &[u32],
+    sizes: Sizes,
+    weights: &Weights,
     items: &[u8],
-    quotient: &[u32],
+    coefficients: &[u32],
     out: &mut [u32],
 )
-    requires { (m ≤ 6) × (n ≤ 64) × (1 ≤ l) × (l ≤ 8) × (at < p) × (length items.now ≡ l * item_size m n) × (weights.now ≡ lagrange_at l at) × Below quotient.now × (length out.old ≡ 1 + m + n) × (4 * stride ≡ item_size m n) }
-    ensures { out.new ≡ map val (new_e baby_bear (read_items m n l items.now) (map ofℕ quotient.now) (ofℕ at) ∷ new_r baby_bear m (read_items m n l items.now) (ofℕ at) ++ new_x baby_bear n (read_items m n l items.now) (ofℕ at)) }
+    requires { (1 ≤ weights.now.l) × (length items.now ≡ weights.now.l * item_size sizes.m sizes.n) × Below coefficients.now × (length out.old ≡ 1 + sizes.m + sizes.n) }
+    ensures { out.new ≡ map val (new_e baby_bear (read_items sizes.m sizes.n weights.now.l items.now) (map ofℕ coefficients.now) (ofℕ weights.now.at) ∷ new_r baby_bear sizes.m (read_items sizes.m sizes.n weights.now.l items.now) (ofℕ weights.now.at) ++ new_x baby_bear sizes.n (read_items sizes.m sizes.n weights.now.l items.now) (ofℕ weights.now.at)) }
 {
-    crate::combine::combine(weights, items, stride, 0, out);
-    out[0] = crate::quotient::new_e(m, n, l, stride, at, weights, items, quotient);
+    combine::combine(weights.as_slice(), items, sizes.stride(), 0, out);
+    out[0] = quotient::new_e(sizes, weights, items, coefficients);
 }

@@ -1,185 +1,81 @@
 // The combined value at a challenge, the new e, and the quotient.
-ghost use Rattle.std.specs.Prelude.{◌≡◌, map, ◌+◌, ◌*◌, ◌≤◌, ◌<◌, length};
-ghost use Rattle.field.specs.BabyBear.{baby_bear, p, val, ofℕ};
+ghost use Rattle.std.specs.Prelude.{◌≡◌, map, ◌+◌, ◌*◌, ◌<◌, length};
+ghost use Rattle.field.specs.BabyBear.{baby_bear, val, ofℕ};
 ghost use Rattle.field.specs.Numbers.{Below};
-ghost use Rattle.field.specs.Inverses.{small_inverses};
-ghost use Rattle.theory.specs.Combination.{new_e, combined_value, quotient_size, quotient_of};
+ghost use Rattle.theory.specs.Combination.{mix_e, new_e, combined_value, quotient_size, quotient_of};
 ghost use Rattle.theory.specs.Fp.{circuit, item_size, read_items, read_witness};
-ghost use Rattle.fold.specs.Weights.{lagrange_at};
 ghost use Rattle.fold.specs.Fits.{Fits, quotient_at};
 
+use crate::basis::Weights;
 use crate::{basis, combine, interpolate};
+use field::Inverses;
+use r1cs::list::List;
+use r1cs::sizes::Sizes;
 
-// The value at the combined r, x and w, with the given weights; r and z are scratch space for them.
-fn combined_value_in(
-    m: usize,
-    n: usize,
-    k: usize,
-    stride: usize,
-    at: u32,
-    weights: &[u32],
-    a: &[u8],
-    b: &[u8],
-    c: &[u8],
-    items: &[u8],
-    wits: &[u8],
-    r: &mut [u32],
-    z: &mut [u32],
-) -> u32
-    requires fits { Fits m n k (length weights.now) a.now b.now c.now items.now wits.now × (weights.now ≡ lagrange_at (length weights.now) at) × (4 * stride ≡ item_size m n) }
-    requires r_len { (length r.old ≡ m) × (length z.old ≡ n + k) }
-    ensures { result ≡ val (combined_value baby_bear (circuit a.now b.now c.now) m n k (read_items m n (length weights.now) items.now) (read_witness k wits.now) (ofℕ at)) }
+// The sum of L_i × e_i.
+fn mixed_e(sizes: Sizes, weights: &Weights, items: &[u8]) -> u32
+    requires { length items.now ≡ weights.now.l * item_size sizes.m sizes.n }
+    ensures { result ≡ val (mix_e baby_bear (read_items sizes.m sizes.n weights.now.l items.now) (ofℕ weights.now.at)) }
 {
-    combine::combine(weights, items, stride, 1, r);
-    combine::combine(weights, items, stride, 1 + m, &mut z[..n]);
-    combine::combine(weights, wits, k, 0, &mut z[n..]);
-    r1cs::value(a, b, c, r, z)
+    combine::weighted(weights.as_slice(), items, sizes.stride(), 0)
 }
 
-// The value at the combined r, x and w, with the given weights.
-fn combined_value(
-    m: usize,
-    n: usize,
-    k: usize,
-    stride: usize,
-    at: u32,
-    weights: &[u32],
-    a: &[u8],
-    b: &[u8],
-    c: &[u8],
-    items: &[u8],
-    wits: &[u8],
-) -> u32
-    requires { Fits m n k (length weights.now) a.now b.now c.now items.now wits.now × (weights.now ≡ lagrange_at (length weights.now) at) × (4 * stride ≡ item_size m n) }
-    ensures { result ≡ val (combined_value baby_bear (circuit a.now b.now c.now) m n k (read_items m n (length weights.now) items.now) (read_witness k wits.now) (ofℕ at)) }
+// The value at the combined r, x and w.
+fn combined_value(list: &List<'_>, weights: &Weights) -> u32
+    requires { Fits list.now.sizes.n list.now.sizes.k list.now.circuit.a.now list.now.circuit.b.now list.now.circuit.c.now × (weights.now.l ≡ list.now.l) }
+    ensures { result ≡ val (combined_value baby_bear (circuit list.now.circuit.a.now list.now.circuit.b.now list.now.circuit.c.now) list.now.sizes.m list.now.sizes.n list.now.sizes.k (read_items list.now.sizes.m list.now.sizes.n list.now.l list.now.items.now) (read_witness list.now.sizes.k list.now.wits.now) (ofℕ weights.now.at)) }
 {
+    let Sizes { m, n, k, .. } = list.sizes;
+    let stride = list.sizes.stride();
+    let weights = weights.as_slice();
     let mut r = [0u32; 6];
+    let r = &mut r[..m];
     let mut z = [0u32; 128];
-    combined_value_in(
-        m,
-        n,
-        k,
-        stride,
-        at,
-        weights,
-        a,
-        b,
-        c,
-        items,
-        wits,
-        &mut r[..m],
-        &mut z[..n + k],
-    )
-}
-
-// The quotient's value at l + i: (value - sum of L_i × e_i) / Z; weights is scratch space for the L_i.
-fn quotient_value_in(
-    m: usize,
-    n: usize,
-    k: usize,
-    l: usize,
-    stride: usize,
-    i: usize,
-    inverses: &[u32],
-    a: &[u8],
-    b: &[u8],
-    c: &[u8],
-    items: &[u8],
-    wits: &[u8],
-    weights: &mut [u32],
-) -> u32
-    requires { Fits m n k l a.now b.now c.now items.now wits.now × (l + i < 64) × (inverses.now ≡ small_inverses) × (length weights.old ≡ l) × (4 * stride ≡ item_size m n) }
-    ensures { result ≡ val (quotient_at m n k l a.now b.now c.now items.now wits.now (ofℕ (l + i))) }
-{
-    let at = (l + i) as u32;
-    basis::lagrange(at, inverses, weights);
-    let value = combined_value(m, n, k, stride, at, weights, a, b, c, items, wits);
-    let e = combine::weighted(weights, items, stride, 0);
-    field::mul(
-        field::sub(value, e),
-        basis::inverse_vanishing(l, i, inverses),
-    )
+    let z = &mut z[..n + k];
+    combine::combine(weights, list.items, stride, 1, r);
+    combine::combine(weights, list.items, stride, 1 + m, &mut z[..n]);
+    combine::combine(weights, list.wits, k, 0, &mut z[n..]);
+    list.circuit.value(r, z)
 }
 
 // The quotient's value at l + i: (value - sum of L_i × e_i) / Z.
-fn quotient_value(
-    m: usize,
-    n: usize,
-    k: usize,
-    l: usize,
-    stride: usize,
-    i: usize,
-    inverses: &[u32],
-    a: &[u8],
-    b: &[u8],
-    c: &[u8],
-    items: &[u8],
-    wits: &[u8],
-) -> u32
-    requires { Fits m n k l a.now b.now c.now items.now wits.now × (l + i < 64) × (inverses.now ≡ small_inverses) × (4 * stride ≡ item_size m n) }
-    ensures { result ≡ val (quotient_at m n k l a.now b.now c.now items.now wits.now (ofℕ (l + i))) }
+fn quotient_value(list: &List<'_>, i: usize, inverses: &Inverses) -> u32
+    requires { Fits list.now.sizes.n list.now.sizes.k list.now.circuit.a.now list.now.circuit.b.now list.now.circuit.c.now × (list.now.l + i < 64) }
+    ensures { result ≡ val (quotient_at list.now.sizes.m list.now.sizes.n list.now.sizes.k list.now.l list.now.circuit.a.now list.now.circuit.b.now list.now.circuit.c.now list.now.items.now list.now.wits.now (ofℕ (list.now.l + i))) }
 {
-    let mut weights = [0u32; 8];
-    quotient_value_in(
-        m,
-        n,
-        k,
-        l,
-        stride,
-        i,
-        inverses,
-        a,
-        b,
-        c,
-        items,
-        wits,
-        &mut weights[..l],
+    let weights = Weights::new(list.l, (list.l + i) as u32, inverses);
+    let value = combined_value(list, &weights);
+    let e = mixed_e(list.sizes, &weights, list.items);
+    field::mul(
+        field::sub(value, e),
+        basis::inverse_vanishing(list.l, i, inverses),
     )
 }
 
 // Writes the quotient's coefficients.
-pub fn quotient(
-    m: usize,
-    n: usize,
-    k: usize,
-    l: usize,
-    stride: usize,
-    a: &[u8],
-    b: &[u8],
-    c: &[u8],
-    items: &[u8],
-    wits: &[u8],
-    out: &mut [u32],
-)
-    requires { Fits m n k l a.now b.now c.now items.now wits.now × (length out.old ≡ quotient_size m l) × (4 * stride ≡ item_size m n) }
-    ensures { out.new ≡ map val (quotient_of baby_bear (circuit a.now b.now c.now) m n k (read_items m n l items.now) (read_witness k wits.now)) }
+pub fn quotient(list: &List<'_>, out: &mut [u32])
+    requires { Fits list.now.sizes.n list.now.sizes.k list.now.circuit.a.now list.now.circuit.b.now list.now.circuit.c.now × (length out.old ≡ quotient_size list.now.sizes.m list.now.l) }
+    ensures { out.new ≡ map val (quotient_of baby_bear (circuit list.now.circuit.a.now list.now.circuit.b.now list.now.circuit.c.now) list.now.sizes.m list.now.sizes.n list.now.sizes.k (read_items list.now.sizes.m list.now.sizes.n list.now.l list.now.items.now) (read_witness list.now.sizes.k list.now.wits.now)) }
 {
-    let inverses = field::inverses();
-    let mut i = 0;
-    while i < out.len() {
-        out[i] = quotient_value(m, n, k, l, stride, i, &inverses, a, b, c, items, wits);
-        i += 1;
+    let inverses = Inverses::new();
+    for (i, value) in out.iter_mut().enumerate() {
+        *value = quotient_value(list, i, &inverses);
     }
-    interpolate::interpolate(l as u32, &inverses, out);
+    interpolate::interpolate(list.l as u32, &inverses, out);
 }
 
 // The new e at the challenge: the sum of L_i × e_i, plus Z × quotient.
-pub fn new_e(
-    m: usize,
-    n: usize,
-    l: usize,
-    stride: usize,
-    at: u32,
-    weights: &[u32],
-    items: &[u8],
-    quotient: &[u32],
-) -> u32
-    requires { (m ≤ 6) × (n ≤ 64) × (l ≤ 8) × (at < p) × (length items.now ≡ l * item_size m n) × (weights.now ≡ lagrange_at l at) × Below quotient.now × (4 * stride ≡ item_size m n) }
-    ensures { result ≡ val (new_e baby_bear (read_items m n l items.now) (map ofℕ quotient.now) (ofℕ at)) }
+pub fn new_e(sizes: Sizes, weights: &Weights, items: &[u8], coefficients: &[u32]) -> u32
+    requires { (length items.now ≡ weights.now.l * item_size sizes.m sizes.n) × Below coefficients.now }
+    ensures { result ≡ val (new_e baby_bear (read_items sizes.m sizes.n weights.now.l items.now) (map ofℕ coefficients.now) (ofℕ weights.now.at)) }
 {
-    let e = combine::weighted(weights, items, stride, 0);
+    let at = weights.at;
+    let e = mixed_e(sizes, weights, items);
     field::add(
         e,
-        field::mul(basis::vanishing(l, at), code::value_at(quotient, at)),
+        field::mul(
+            basis::vanishing(weights.l, at),
+            code::value_at(coefficients, at),
+        ),
     )
 }

@@ -2,4 +2,3 @@ pub mod Answers
 pub mod Elements
 pub mod Permitted
 pub mod Openings
-pub mod Pieces

@@ -7,27 +7,22 @@ ghost use Rattle.code.specs.Points.{is_witness_count, points};
 ghost use Rattle.harness.specs.Answers.{permitted_answer};
 ghost use Rattle.theory.specs.Checks.{check, answer, written};
 ghost use Rattle.theory.specs.Sizes.{points_fit, points_differ};
+ghost use Rattle.checks.specs.Refusals.{answer_of};
 ghost use Rattle.harness.specs.Permitted.{codeword_sizes, codeword_permitted, codeword_at_permitted};
+
+use checks::refusal::{self, Refusal, ensure};
 
 // Whether all numbers are below p.
 fn all_elements(w: &[u32]) -> bool
     ensures { result ≡ all_below p w.now }
 {
-    let mut i = 0;
-    while i < w.len() {
-        if w[i] >= field::P {
-            return false;
-        }
-        i += 1;
-    }
-    true
+    w.iter().all(|x| *x < field::P)
 }
 
 fn sizes(k: usize, out: usize) -> bool
     ensures { result ≡ codeword_sizes k out }
 {
-    let count = (k == 2) | (k == 4) | (k == 8) | (k == 16) | (k == 32) | (k == 64);
-    count & (out % 4 == 0) & (out / 4 == k)
+    matches!(k, 2 | 4 | 8 | 16 | 32 | 64) & (out % 4 == 0) & (out / 4 == k)
 }
 
 fn permitted(w: &[u32], out: usize) -> bool
@@ -68,16 +63,18 @@ pub extern "C" fn lomvuze_test_codeword_at(w: &[u32], points: &[u32], out: &mut 
     0
 }
 
+fn points_verdict(k: u32, points: &[u8]) -> Result<(), Refusal>
+    ensures { answer_of result ≡ answer (check 2 (is_witness_count k && points_fit k points.now) ∷ check 12 (points_differ points.now) ∷ []) }
+{
+    let fits = code::is_witness_count(k) & checks::points::fits(k as usize, points);
+    ensure(fits, Refusal::Sizes)?;
+    ensure(checks::points::differ(k as usize, points), Refusal::Points)
+}
+
 // Checks 2 and 12 of the points that are lent for k witness numbers.
 #[unsafe(no_mangle)]
 pub extern "C" fn lomvuze_test_points(k: u32, points: &[u8]) -> u32
     ensures { result ≡ answer (check 2 (is_witness_count k && points_fit k points.now) ∷ check 12 (points_differ points.now) ∷ []) }
 {
-    if !(code::is_witness_count(k) & checks::points::fits(k as usize, points)) {
-        return 2;
-    }
-    if !checks::points::differ(k as usize, points) {
-        return 12;
-    }
-    0
+    refusal::answer(points_verdict(k, points))
 }

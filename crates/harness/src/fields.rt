@@ -50,7 +50,7 @@ pub extern "C" fn lomvuze_test_pow(a: u32, e: u32) -> u32
 pub extern "C" fn lomvuze_test_inverse(n: u32) -> u32
     ensures { result ≡ val (inv (ofℕ (n % 64))) }
 {
-    field::inverse_of((n % 64) as usize)
+    field::Inverses::new().of((n % 64) as usize)
 }
 
 // x times y n times over.
@@ -59,10 +59,8 @@ pub extern "C" fn lomvuze_test_chain_mul(x: u32, y: u32, n: u32) -> u32
     ensures { result ≡ val (ofℕ x ⊗ pow R (ofℕ y) n) }
 {
     let mut acc = element(x);
-    let mut i = 0;
-    while i < n {
+    for _i in 0..n {
         acc = field::mul(acc, y);
-        i += 1;
     }
     acc
 }
@@ -74,10 +72,8 @@ pub extern "C" fn lomvuze_test_chain_add(x: u32, y: u32, n: u32) -> u32
 {
     let step = element(y);
     let mut acc = element(x);
-    let mut i = 0;
-    while i < n {
+    for _i in 0..n {
         acc = field::add(acc, step);
-        i += 1;
     }
     acc
 }

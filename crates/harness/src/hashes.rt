@@ -17,14 +17,12 @@ pub extern "C" fn lomvuze_test_digest(
     ensures out { out.new ≡ written result (digest message.now) out.old }
     ensures blocks { blocks.new ≡ written result (block_count message.now ∷ []) blocks.old }
 {
-    if !(message.len() < 0x2000000000000000) {
+    if message.len() >= 0x2000000000000000 {
         return 1;
     }
     let hashed = hash::digest(message);
-    let d = hashed.digest;
-    *out = d;
-    let count = [hashed.blocks];
-    *blocks = count;
+    out.copy_from_slice(&hashed.digest);
+    *blocks = [hashed.blocks];
     0
 }
 
@@ -34,13 +32,11 @@ pub extern "C" fn lomvuze_test_leaf(position: &[u8; 4], value: &[u8], out: &mut 
     ensures answer { result ≡ leaf_answer (length value.now) }
     ensures out { out.new ≡ written result (digest (0x00 ∷ (position.now ++ value.now))) out.old }
 {
-    if !(value.len() <= 16) {
+    if value.len() > 16 {
         return 1;
     }
-    let p = *position;
-    let hashed = hash::leaf(p, value);
-    let d = hashed.digest;
-    *out = d;
+    let hashed = hash::leaf(*position, value);
+    out.copy_from_slice(&hashed.digest);
     0
 }
 
@@ -48,11 +44,8 @@ pub extern "C" fn lomvuze_test_leaf(position: &[u8; 4], value: &[u8], out: &mut 
 pub extern "C" fn lomvuze_test_node(left: &[u8; 32], right: &[u8; 32], out: &mut [u8; 32])
     ensures { out.new ≡ digest (0x01 ∷ (left.now ++ right.now)) }
 {
-    let l = *left;
-    let r = *right;
-    let hashed = hash::node(l, r);
-    let d = hashed.digest;
-    *out = d;
+    let hashed = hash::node(*left, *right);
+    out.copy_from_slice(&hashed.digest);
 }
 
 // The digests of four messages side by side, of which each stands padded in `blocks % 3` blocks.
@@ -64,8 +57,7 @@ pub extern "C" fn lomvuze_test_side_by_side(
 )
     ensures { (i : ℕ) → i < 4 → get_or out.new i [] ≡ bytes (hash H₀ (get_or messages.now i []) (blocks % 3)) 8 }
 {
-    let d = lanes::digests(messages, blocks % 3);
-    *out = d;
+    *out = lanes::digests(messages, blocks % 3);
 }
 
 // The digest of a message, fed into a running hash in pieces of `step` bytes.
@@ -73,15 +65,11 @@ fn in_pieces(message: &[u8], step: usize) -> [u8; 32]
     requires { (length message.now < 2 ^ 61) × (0 < step) }
     ensures { result ≡ digest message.now }
 {
-    let len = message.len();
     let mut state = Running::new();
-    let mut at = 0;
-    while step < len - at {
-        let next = state.feed_slice(&message[at..at + step]);
-        state = next;
-        at += step;
+    for piece in message.chunks(step) {
+        state = state.feed(piece);
     }
-    state.feed_slice(&message[at..]).digest()
+    state.digest()
 }
 
 // The digest of a message that is fed into a running hash in pieces of `step` bytes, of which the last may have fewer. Pieces of no bytes are refused, and
@@ -91,11 +79,10 @@ pub extern "C" fn lomvuze_test_running(message: &[u8], step: usize, out: &mut [u
     ensures answer { result ≡ running_answer step (length message.now) }
     ensures out { out.new ≡ written result (digest message.now) out.old }
 {
-    if !((message.len() < 0x2000000000000000) & (0 < step)) {
+    if (message.len() >= 0x2000000000000000) | (step == 0) {
         return 1;
     }
-    let d = in_pieces(message, step);
-    *out = d;
+    *out = in_pieces(message, step);
     0
 }
 
@@ -103,16 +90,16 @@ pub extern "C" fn lomvuze_test_running(message: &[u8], step: usize, out: &mut [u
 fn fed_node(left: [u8; 32], right: [u8; 32]) -> [u8; 32]
     ensures { result ≡ digest (0x01 ∷ (left ++ right)) }
 {
-    let marked = Running::new().feed_byte(0x01);
-    marked.feed_digest(left).feed_digest(right).digest()
+    Running::new()
+        .feed(&[0x01])
+        .feed(&left)
+        .feed(&right)
+        .digest()
 }
 
 #[unsafe(no_mangle)]
 pub extern "C" fn lomvuze_test_running_node(left: &[u8; 32], right: &[u8; 32], out: &mut [u8; 32])
     ensures { out.new ≡ digest (0x01 ∷ (left.now ++ right.now)) }
 {
-    let l = *left;
-    let r = *right;
-    let d = fed_node(l, r);
-    *out = d;
+    *out = fed_node(*left, *right);
 }

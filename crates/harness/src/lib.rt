@@ -1,4 +1,5 @@
-// The library's lower layers for tests in other languages: each function tests or reduces its own input.
+// The library's lower layers for tests in other languages: each function tests or reduces its own input. C gets a refusal
+// as the number 1, or as that of the check that fails.
 #![tactic(auto)]
 
 mod codes;

@@ -8,29 +8,16 @@ ghost use Rattle.harness.specs.Answers.{permitted_answer};
 ghost use Rattle.theory.specs.Checks.{written};
 ghost use Rattle.harness.specs.Permitted.{tree_permitted, opening_permitted, opened_permitted};
 
-fn leaves(depth: usize) -> usize
-    requires { depth ≤ 8 }
-    ensures { result ≡ 2 ^ depth }
-{
-    1 << depth
-}
-
 fn tree_permitted(depth: usize, count: usize) -> bool
     ensures { result ≡ tree_permitted depth count }
 {
-    if 8 < depth {
-        return false;
-    }
-    count == leaves(depth)
+    depth <= 8 && count == 1 << depth
 }
 
 fn opened_permitted(depth: usize, size: usize) -> bool
     ensures { result ≡ opened_permitted depth size }
 {
-    if 8 < depth {
-        return false;
-    }
-    size == 4 + 32 * depth
+    depth <= 8 && size == 4 + 32 * depth
 }
 
 fn opening_permitted(depth: usize, count: usize, position: usize, size: usize) -> bool
@@ -48,8 +35,7 @@ pub extern "C" fn lomvuze_test_root(values: &[u32], depth: usize, out: &mut [u8;
     if !tree_permitted(depth, values.len()) {
         return 1;
     }
-    let d = tree::root(values, depth);
-    *out = d;
+    *out = tree::root(values, depth);
     0
 }
 
@@ -94,7 +80,6 @@ pub extern "C" fn lomvuze_test_leads(
         return 1;
     }
     let hashed = tree::opening_root(opening, 0, depth, position);
-    let d = hashed.digest;
-    *out = d;
+    out.copy_from_slice(&hashed.digest);
     0
 }

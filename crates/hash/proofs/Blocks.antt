@@ -1,6 +1,6 @@
 -- The hash value, block by block, and the digest.
 -- Assumes nothing.
-use Rattle.std.proofs.Common.{◌≡◌, ℕ, zero, suc, ◌+◌, ◌-◌, ◌*◌, ◌/◌, ◌%◌, ◌≤◌, List, ◌++◌, length, get_or, drop, replicate, sym, refl, ap, ◌∙◌, ap₂, add-zero, add-suc, add-one, arith, length-drop, get_or-drop}
+use Rattle.std.proofs.Common.{◌≡◌, ℕ, zero, suc, ◌+◌, ◌-◌, ◌*◌, ◌/◌, ◌%◌, ◌≤◌, List, ◌++◌, length, get_or, take, drop, replicate, sym, refl, ap, ◌∙◌, ap₂, add-zero, add-suc, add-one, arith, length-drop, get_or-drop, take_at}
 use lib.ListN.{get_or-append}
 use Rattle.hash.specs.Sha256.{H₀, padding, pad, padded_in, words, block_count, compress, hash, bytes, digest}
 use Rattle.hash.proofs.Fill.{up_to-ext}
@@ -53,26 +53,29 @@ hash-drop h p n (suc i) =
     let at : 64 * n + 64 * i ≡ 64 * (n + i) = omega arith in
     ap₂ compress (hash-drop h p n i) (words-drop p (64 * n) (64 * i) ∙ ap (words p) at) ∙ ap (hash h p) (sym (add-suc n i))
 
--- the whole blocks of m leave h; those of its last blocks, which stand at the front of t, leave g
-pub all_blocks : (m h t z g r : List ℕ) (k : ℕ) → h ≡ hash H₀ m (length m / 64) → t ≡ drop (64 * (length m / 64)) (pad m) ++ z
-    → k ≡ (length m % 64 + 8) / 64 + 1 → g ≡ hash h t k → r ≡ bytes g 8 → r ≡ digest m
+-- the whole blocks of m leave h; its last blocks, which stand at the front of t, leave g
+pub all_blocks : (m h t z g r : List ℕ) (n : ℕ) → h ≡ hash H₀ m (length m / 64) → t ≡ drop (64 * (length m / 64)) (pad m) ++ z
+    → n ≡ 64 * ((length m % 64 + 8) / 64 + 1) → g ≡ hash h (take n t) (length (take n t) / 64) → r ≡ bytes g 8 → r ≡ digest m
 unfolding digest block_count pad
-all_blocks m h t z g r k e-h e-t e-k e-g e-r =
+all_blocks m h t z g r n e-h e-t e-n e-g e-r =
     let q : ℕ = length m / 64 in
+    let past : List ℕ = drop (64 * q) (pad m) in
     let l = length-pad m in
-    let d = length-drop (64 * q) (pad m) in
-    let count : q + k ≡ length (pad m) / 64 = omega arith in
+    let size : length past ≡ 64 * (length (pad m) / 64 - q) = length-drop (64 * q) (pad m) ∙ omega arith in
+    let last : take n t ≡ past = ap (take n) e-t ∙ take_at past z n (omega arith) in
+    let count : q + length past / 64 ≡ length (pad m) / 64 = omega arith in
     e-r
     ∙ ap (λ (x : List ℕ). bytes x 8)
-    (e-g ∙ ap₂ (λ (x y : List ℕ). hash x y k) (e-h ∙ sym (hash-append H₀ m (padding (length m)) q (omega arith))) e-t
-    ∙ hash-append (hash H₀ (pad m) q) (drop (64 * q) (pad m)) z k (omega arith)
-    ∙ hash-drop H₀ (pad m) q k
+    (e-g ∙ (λ i. hash (e-h i) (last i) (length (last i) / 64))
+    ∙ ap (λ (x : List ℕ). hash x past (length past / 64)) (sym (hash-append H₀ m (padding (length m)) q (omega arith)))
+    ∙ hash-drop H₀ (pad m) q (length past / 64)
     ∙ ap (hash H₀ (pad m)) count)
 
 -- they are as many as the message has
-pub all-counted : (m : List ℕ) {whole all : ℕ} → whole ≡ 0 + length m / 64 → all ≡ whole + ((length m % 64 + 8) / 64 + 1) → all ≡ block_count m
+pub all-counted : (m : List ℕ) {whole all size : ℕ} → whole ≡ 0 + length m / 64 → size ≡ 64 * ((length m % 64 + 8) / 64 + 1) → all ≡ whole + size / 64
+    → all ≡ block_count m
 unfolding block_count
-all-counted m e-w e-a = omega (arith, e-w, e-a, length-pad m)
+all-counted m e-w e-s e-a = omega (arith, e-w, e-s, e-a, length-pad m)
 
 -- the blocks of a padded message, also where zeros follow it
 pub padded-digest : (m : List ℕ) (size : ℕ) {p : List ℕ} {n : ℕ} → p ≡ padded_in size m → block_count m ≡ n → bytes (hash H₀ p n) 8 ≡ digest m

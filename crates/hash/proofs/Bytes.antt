@@ -1,10 +1,22 @@
 -- Numbers in bytes, and the bytes of a hash value.
 -- Assumes nothing.
-use Rattle.std.proofs.Common.{◌≡◌, ℕ, zero, suc, ◌+◌, ◌-◌, ◌*◌, ◌<◌, List, ◌++◌, length, get_or, take, drop, sym, refl, ap, ◌∙◌, ap₂, le_of_eq, add-one, arith, length-append, take_all, take_at, get_or-append-add}
+use Rattle.std.proofs.Common.{◌≡◌, ℕ, zero, suc, ◌+◌, ◌-◌, ◌*◌, ◌<◌, ◌≤◌, List, ◌++◌, length, get_or, take, sym, refl, ap, ◌∙◌, ap₂, le_of_eq, add-one, div-one, arith, length-append, take_all, get_or-append-add}
+use Rattle.std.specs.Int.{w32, w64, to_be_bytes}
+use Rattle.std.proofs.lemmas.Slice.{take-put_mid}
+use borrow.Rule.Slice.PartMut.{put_mid}
 use native.Mathlib.Decide.{dec_lt}
 use lib.ListN.{get_or-append}
-use Rattle.hash.specs.Sha256.{in_bytes, bytes}
+use Rattle.hash.specs.Sha256.{up_to, in_bytes, bytes}
 use Rattle.hash.proofs.Fill.{length-up_to, get_or-up_to}
+
+-- `to_be_bytes` gives them
+pub in_bytes-4 : (x : ℕ) → to_be_bytes w32 x ≡ in_bytes 4 x
+unfolding up_to in_bytes
+in_bytes-4 x = cc (div-one x)
+
+pub in_bytes-8 : (x : ℕ) → to_be_bytes w64 x ≡ in_bytes 8 x
+unfolding up_to in_bytes
+in_bytes-8 x = cc (div-one x)
 
 pub length-in_bytes : (n x : ℕ) → length (in_bytes n x) ≡ n
 unfolding in_bytes
@@ -31,17 +43,14 @@ bytes_below h (suc n) i k = go (bytes_below h n i) (dec_lt i (4 * n))
         let e : i ≡ length (bytes h n) + (i - 4 * n) = omega arith in
         rw (e, get_or-append-add (bytes h n) (in_bytes 4 (get_or h n 0)) (i - 4 * n) 0, get_or-up_to 4 _ (i - 4 * n) (omega arith)) (omega arith)
 
--- d holds the bytes of the first j words of h, and e is d with the next word w
+-- d holds the bytes of the first j words of h
 module _ (h d : List ℕ) (j : ℕ) (so_far : take (4 * j) d ≡ bytes h j) where
-  pub word_more : (w e : List ℕ) → w ≡ in_bytes 4 (get_or h j 0) → e ≡ take (4 * j) d ++ w ++ drop (4 * j + length w) d
-      → take (4 * (j + 1)) e ≡ bytes h (j + 1)
+  -- w is written behind them
+  pub word_more : (w : List ℕ) (k : ℕ) → w ≡ in_bytes 4 (get_or h j 0) → 4 * j ≤ length d → take (4 * (j + 1)) (put_mid (4 * j) k d w) ≡ bytes h (j + 1)
   unfolding bytes
-  word_more w e e-w e-e =
-      let a = ap length so_far ∙ length-bytes h j in
-      let b = ap length e-w ∙ length-in_bytes 4 (get_or h j 0) in
-      let l : length (take (4 * j) d ++ w) ≡ 4 * (j + 1) = length-append (take (4 * j) d) w ∙ omega arith in
-      ap (take (4 * (j + 1))) e-e ∙ take_at (take (4 * j) d ++ w) (drop (4 * j + length w) d) (4 * (j + 1)) l
-      ∙ rw (add-one j) (ap₂ (λ (x y : List ℕ). x ++ y) so_far e-w)
+  word_more w k e-w room =
+      let four : length w ≡ 4 = ap length e-w ∙ length-in_bytes 4 (get_or h j 0) in
+      take-put_mid (4 * j) k d w (4 * (j + 1)) (omega arith) room ∙ rw (add-one j) (ap₂ (λ (x y : List ℕ). x ++ y) so_far e-w)
 
   pub words-all : j ≡ 8 → length d ≡ 32 → d ≡ bytes h 8
   words-all e l = sym (take_all 32 d (le_of_eq l)) ∙ ap (λ (i : ℕ). take (4 * i) d) (sym e) ∙ so_far ∙ ap (bytes h) e

@@ -1,12 +1,11 @@
--- A loop that copies a list into another, from an index on.
+-- A list that is written into a part of another.
 -- Assumes nothing.
-use Rattle.std.proofs.Common.{◌≡◌, ℕ, ◌+◌, ◌<◌, List, ◌++◌, length, get_or, take, drop, set, ap, ◌∙◌, add-one}
-use lib.Seq.{paste, paste-suc, take-length}
+use Rattle.std.proofs.Common.{◌≡◌, ℕ, ◌+◌, List, ◌++◌, length, take, drop, sym, ap, ◌∙◌, append_assoc}
+use borrow.Rule.Slice.PartMut.{put_mid}
+use lib.Seq.{drop-drop}
 
--- d is d₀ with the first i entries of s from index `at` on
-module _ (d₀ s d : List ℕ) (at i : ℕ) (so_far : d ≡ paste d₀ at s i) where
-  pub copy_more : at + i < length d₀ → i < length s → set d (at + i) (get_or s i 0) ≡ paste d₀ at s (i + 1)
-  copy_more h k = rw (add-one i) (ap (λ (t : List ℕ). set t (at + i) (get_or s i 0)) so_far ∙ paste-suc d₀ at s i 0 h k)
-
-  pub copy-all : i ≡ length s → d ≡ take at d₀ ++ s ++ drop (at + length s) d₀
-  copy-all e = so_far ∙ ap (paste d₀ at s) e ∙ ap (λ (t : List ℕ). take at d₀ ++ t ++ drop (at + length s) d₀) (take-length s)
+-- s stands in d from index `at` on, where the part of k entries from there holds r
+pub copied : (d s r : List ℕ) (at k : ℕ) → r ≡ s → k ≡ length s → put_mid at k d r ≡ take at d ++ s ++ drop (at + length s) d
+copied d s r at k e l =
+    (λ i. take at d ++ (e i ++ drop (l i) (drop at d))) ∙ sym (append_assoc (take at d) s (drop (length s) (drop at d)))
+    ∙ ap (λ (t : List ℕ). take at d ++ s ++ t) (drop-drop (length s) at d)

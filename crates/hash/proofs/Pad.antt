@@ -1,9 +1,11 @@
 -- The padded message: its length, and its last blocks, which are written into a buffer of 128 zeros.
 -- Assumes nothing.
-use Rattle.std.proofs.Common.{◌≡◌, ℕ, suc, ◌+◌, ◌-◌, ◌*◌, ◌/◌, ◌%◌, ◌<◌, ◌≤◌, List, ◌∷◌, ◌++◌, length, take, drop, set, replicate, sym, refl, ap, ◌∙◌, ap₂, append_assoc, le_of_eq, zero-add, arith, length-append, length-drop, take-append-drop, length-take-le, take_all, take_at, drop_at}
+use Rattle.std.proofs.Common.{◌≡◌, ℕ, suc, ◌+◌, ◌-◌, ◌*◌, ◌/◌, ◌%◌, ◌<◌, ◌≤◌, List, ◌∷◌, ◌++◌, length, take, drop, set, replicate, sym, ap, ◌∙◌, ap₂, append_assoc, le_of_eq, arith, length-append, length-drop, take-append-drop, length-take-le, take_all, take_at, drop_at}
 use lib.ListN.{length-replicate, replicate-append-replicate}
 use lib.Seq.{set_at, drop-append-add, drop-append-le}
 use Rattle.hash.specs.Sha256.{in_bytes, zeros, padding, pad, padded_in}
+use borrow.Rule.Slice.PartMut.{put_mid}
+use Rattle.hash.proofs.Copy.{copied}
 use Rattle.hash.proofs.Bytes.{length-in_bytes}
 
 length-padding : (l : ℕ) → length (padding l) ≡ 9 + zeros l
@@ -44,47 +46,52 @@ module _ (rest s : List ℕ) (z k : ℕ) where
       (ap (drop (e + 8)) e-t ∙ ap (λ (n : ℕ). drop (n + 8) (front ++ room)) (sym l) ∙ drop-append-add front room 8)
       ∙ ap (λ (x : List ℕ). x ++ replicate k 0) (append_assoc rest (0x80 ∷ replicate z 0) s)
 
--- out is b with the byte 0x80 and the length s, where b holds the last bytes of a message of l bytes up to `at`, and zeros
-pub closed : (b s out : List ℕ) (at l : ℕ) → length b ≡ 128 → at < 120 → at % 64 ≡ l % 64 → drop at b ≡ replicate (128 - at) 0 → s ≡ in_bytes 8 (8 * l)
-    → out
-    ≡ take (at + 1 + (119 - at % 64) % 64) (set b at 0x80) ++ s
-    ++ drop (at + 1 + (119 - at % 64) % 64 + length s) (set b at 0x80)
-    → out ≡ take at b ++ padding l ++ replicate (128 - at - length (padding l)) 0
+-- b with the byte 0x80 and the length r, where b holds the last bytes of a message of l bytes up to `at`, and zeros
+pub closed : (b r : List ℕ) (at l : ℕ) → length b ≡ 128 → at < 120 → at % 64 ≡ l % 64 → drop at b ≡ replicate (128 - at) 0 → r ≡ in_bytes 8 (8 * l)
+    → put_mid (at + 1 + (119 - at % 64) % 64) (at + 1 + (119 - at % 64) % 64 + 8 - (at + 1 + (119 - at % 64) % 64)) (set b at 0x80) r
+    ≡ take at b ++ padding l ++ replicate (128 - at - length (padding l)) 0
 unfolding zeros padding
-closed b s out at l l-b few same empty e-s e-out =
+closed b r at l l-b few same empty e-r =
     let rest : List ℕ = take at b in
+    let s : List ℕ = in_bytes 8 (8 * l) in
+    let end : ℕ = at + 1 + (119 - at % 64) % 64 in
     let k : ℕ = 128 - at - length (padding l) in
     let p = length-padding l in
     let size : length rest ≡ at = length-take-le at b (omega arith) in
     let count : 128 - at ≡ suc (zeros l + (8 + k)) = omega arith in
-    let eight : length s ≡ 8 = ap length e-s ∙ length-in_bytes 8 (8 * l) in
-    e-out
+    let eight : length s ≡ 8 = length-in_bytes 8 (8 * l) in
+    copied (set b at 0x80) s r end (end + 8 - end) e-r (omega arith)
     ∙ (λ i. take (at + 1 + (119 - same i) % 64) (set b at 0x80) ++ s ++ drop (at + 1 + (119 - same i) % 64 + eight i) (set b at 0x80))
     ∙ written rest s (zeros l) k (set b at 0x80) (at + 1 + zeros l)
     (marked rest s (zeros l) k b at (128 - at) (sym (take-append-drop at b) ∙ ap (λ (t : List ℕ). rest ++ t) empty) count size)
     (omega arith)
-    ∙ ap (λ (t : List ℕ). rest ++ (0x80 ∷ (replicate (zeros l) 0 ++ t)) ++ replicate k 0) e-s
 
--- n bytes x, written at the front of 128 zeros: what follows them
-pub zeros-behind : (x b : List ℕ) (n : ℕ) → length x ≡ n → n ≤ 128 → b ≡ x ++ drop (0 + length x) (replicate 128 0) → drop n b ≡ replicate (128 - n) 0
-zeros-behind x b n l few e-b =
+-- n bytes r, written at the front of 128 zeros
+abbrev pub front_of : List ℕ → ℕ → List ℕ
+front_of r n = r ++ drop n (replicate 128 0)
+
+pub length_front : (r : List ℕ) (n : ℕ) → length r ≡ n → n ≤ 128 → length (front_of r n) ≡ 128
+length_front r n l few = length-append r (drop n (replicate 128 0)) ∙ omega (arith, length-drop n (replicate {A = ℕ} 128 0))
+
+-- what follows them
+pub zeros-behind : (r : List ℕ) (n : ℕ) → length r ≡ n → n ≤ 128 → drop n (front_of r n) ≡ replicate (128 - n) 0
+zeros-behind r n l few =
     let all : n + (128 - n) ≡ 128 = omega arith in
-    ap (drop n) e-b ∙ drop_at x (drop (0 + length x) (replicate 128 0)) n l
-    ∙ ap (λ (i : ℕ). drop i (replicate {A = ℕ} 128 0)) (zero-add (length x) ∙ l)
+    drop_at r (drop n (replicate 128 0)) n l
     ∙ ap (drop n) (sym (replicate-append-replicate n (128 - n) 0 ∙ ap (λ (i : ℕ). replicate {A = ℕ} i 0) all))
     ∙ drop_at (replicate n 0) (replicate (128 - n) 0) n (length-replicate n 0)
 
 -- a short message m, written at the front of 128 zeros, and its padding behind it
-pub padded-is : (m b out : List ℕ) → b ≡ m ++ drop (0 + length m) (replicate 128 0)
-    → out ≡ take (length m) b ++ padding (length m) ++ replicate (128 - length m - length (padding (length m))) 0
+pub padded-is : (m r out : List ℕ) → r ≡ m
+    → out ≡ take (length m) (front_of r (length m)) ++ padding (length m) ++ replicate (128 - length m - length (padding (length m))) 0
     → out ≡ padded_in 128 m
 unfolding pad padded_in
-padded-is m b out e-b e-out =
+padded-is m r out e-r e-out =
     let a = length-append m (padding (length m)) in
     let left : 128 - length m - length (padding (length m)) ≡ 128 - length (m ++ padding (length m)) = omega arith in
     e-out
     ∙ ap₂ (λ (x : List ℕ) (n : ℕ). x ++ padding (length m) ++ replicate n 0)
-    (ap (take (length m)) e-b ∙ take_at m (drop (0 + length m) (replicate 128 0)) (length m) refl) left
+    (take_at r (drop (length m) (replicate 128 0)) (length m) (ap length e-r) ∙ e-r) left
 
 -- the bytes of m past its whole blocks, as the code's slice has them
 abbrev pub rest_of : List ℕ → List ℕ
@@ -93,19 +100,17 @@ rest_of m = take (length m - 64 * (length m / 64)) (drop (64 * (length m / 64)) 
 pub rest-is : (m : List ℕ) → rest_of m ≡ drop (64 * (length m / 64)) m
 rest-is m = take_all (length m - 64 * (length m / 64)) (drop (64 * (length m / 64)) m) (le_of_eq (length-drop (64 * (length m / 64)) m))
 
--- b is these bytes, written at the front of 128 zeros
-module _ (m b : List ℕ) (e-b : b ≡ rest_of m ++ drop (0 + length (rest_of m)) (replicate 128 0)) where
-  length_rest : length (rest_of m) ≡ length m % 64
-  length_rest = ap length (rest-is m) ∙ length-drop (64 * (length m / 64)) m ∙ omega arith
+-- r are these bytes
+module _ (m r : List ℕ) (e-r : r ≡ rest_of m) where
+  pub length_rest : length r ≡ length m % 64
+  length_rest = ap length (e-r ∙ rest-is m) ∙ length-drop (64 * (length m / 64)) m ∙ omega arith
 
-  pub zeros-past : drop (length m % 64) b ≡ replicate (128 - length m % 64) 0
-  zeros-past = zeros-behind (rest_of m) b (length m % 64) length_rest (omega arith) e-b
-
-  -- with the padding they are the last blocks
-  pub last-is : (z out : List ℕ) → out ≡ take (length m % 64) b ++ padding (length m) ++ z → out ≡ drop (64 * (length m / 64)) (pad m) ++ z
+  -- at the front of 128 zeros, and with the padding, they are the last blocks
+  pub last-is : (z out : List ℕ) → out ≡ take (length m % 64) (front_of r (length m % 64)) ++ padding (length m) ++ z
+      → out ≡ drop (64 * (length m / 64)) (pad m) ++ z
   unfolding pad
   last-is z out e =
       e
       ∙ ap (λ (t : List ℕ). t ++ padding (length m) ++ z)
-      (ap (take (length m % 64)) e-b ∙ take_at (rest_of m) (drop (0 + length (rest_of m)) (replicate 128 0)) (length m % 64) length_rest ∙ rest-is m)
+      (take_at r (drop (length m % 64) (replicate 128 0)) (length m % 64) length_rest ∙ e-r ∙ rest-is m)
       ∙ ap (λ (t : List ℕ). t ++ z) (sym (drop-append-le (64 * (length m / 64)) m (padding (length m)) (omega arith)))

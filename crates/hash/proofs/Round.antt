@@ -1,17 +1,7 @@
--- One round, from what each call of its code returned, and the rounds so far.
+-- The rounds so far.
 -- Assumes nothing.
-use Rattle.std.proofs.Common.{◌≡◌, ℕ, zero, suc, ◌+◌, ◌-◌, ◌<◌, ◌≤◌, List, [], ◌∷◌, length, get_or, take, drop, sym, refl, ap, ◌∙◌, add-zero, add-suc, add-one, arith, length-drop, length-take-le, get_or-drop, get_or-take}
-use Rattle.hash.specs.Word.{◌⊞◌, Ch, Maj, Σ₀, Σ₁}
+use Rattle.std.proofs.Common.{◌≡◌, ℕ, zero, suc, ◌+◌, ◌-◌, ◌<◌, ◌≤◌, List, length, get_or, take, drop, sym, refl, ap, ◌∙◌, add-zero, add-suc, add-one, arith, length-drop, length-take-le, get_or-drop, get_or-take}
 use Rattle.hash.specs.Sha256.{round_with, rounds}
-
-module _ (s : List ℕ) (k w : ℕ) (Σe he chosen hec heck t1 Σa major t2 d1 t12 : ℕ) where
-  pub round_is :
-      Σe ≡ Σ₁ (get_or s 4 0) → he ≡ get_or s 7 0 ⊞ Σe → chosen ≡ Ch (get_or s 4 0) (get_or s 5 0) (get_or s 6 0) → hec ≡ he ⊞ chosen
-      → heck ≡ hec ⊞ k → t1 ≡ heck ⊞ w → Σa ≡ Σ₀ (get_or s 0 0) → major ≡ Maj (get_or s 0 0) (get_or s 1 0) (get_or s 2 0)
-      → t2 ≡ Σa ⊞ major → t12 ≡ t1 ⊞ t2 → d1 ≡ get_or s 3 0 ⊞ t1
-      → t12 ∷ get_or s 0 0 ∷ get_or s 1 0 ∷ get_or s 2 0 ∷ d1 ∷ get_or s 4 0 ∷ get_or s 5 0 ∷ get_or s 6 0 ∷ [] ≡ round_with k w s
-  unfolding round_with
-  round_is p₁ p₂ p₃ p₄ p₅ p₆ p₇ p₈ p₉ p₁₀ p₁₁ = cc
 
 -- s is what t rounds leave, and n what the next one leaves of s
 pub one-round : (k w h s n : List ℕ) (t : ℕ) → s ≡ rounds k w h t → n ≡ round_with (get_or k t 0) (get_or w t 0) s → n ≡ rounds k w h (t + 1)

@@ -1,15 +1,10 @@
 -- The message schedule, filled word by word.
 -- Assumes nothing.
-use Rattle.std.proofs.Common.{◌≡◌, ℕ, zero, suc, ◌+◌, ◌-◌, ◌<◌, ◌≤◌, List, [], ◌∷◌, ◌++◌, length, get_or, take, drop, set, sym, ap, ◌∙◌, le_of_eq, add-zero, add-suc, add-one, arith, length-append, get_or-drop, take_all, get_or-take, take-suc, take-suc-set}
+use Rattle.std.proofs.Common.{◌≡◌, ℕ, zero, suc, ◌+◌, ◌-◌, ◌<◌, ◌≤◌, List, [], ◌∷◌, ◌++◌, length, get_or, take, drop, set, sym, ap, ◌∙◌, le_of_eq, add-zero, add-suc, add-one, arith, length-append, get_or-drop, take_all, get_or-take, take-suc-set, take_at}
 use lib.ListN.{get_or-append}
 use lib.Seq.{drop-append-le}
 use Rattle.hash.specs.Word.{◌⊞◌, σ₀, σ₁}
 use Rattle.hash.specs.Sha256.{next_word, scheduled, schedule}
-
--- the first words are the block's
-pub copied : (m w : List ℕ) (t : ℕ) → t < length m → t < length w → take t w ≡ take t m
-    → take (t + 1) (set w t (get_or m t 0)) ≡ take (t + 1) m
-copied m w t hm hw e = rw (add-one t, take-suc-set w t (get_or m t 0) hw, take-suc m t 0 hm, e)
 
 pub start : (w : List ℕ) (t : ℕ) → t ≡ 16 → take t w ≡ scheduled (take 16 w) (t - 16)
 unfolding scheduled
@@ -39,13 +34,13 @@ one_more m w t v lo hi e p =
 pub extended : (m w : List ℕ) (t l : ℕ) → t ≡ l → length w ≡ l → take t w ≡ scheduled m (t - 16) → w ≡ scheduled m (l - 16)
 extended m w t l e-t e-l all = sym (take_all l w (le_of_eq e-l)) ∙ ap (λ (n : ℕ). take n w) (sym e-t) ∙ all ∙ ap (λ (n : ℕ). scheduled m (n - 16)) e-t
 
--- w₀ is the array after the loop that copies the block, which ends at t, and w what it is continued to
-pub whole : (m w₀ w : List ℕ) (t : ℕ) → length m ≡ 16 → t ≡ 16 → length w₀ ≡ 64 → take t w₀ ≡ take t m
-    → w ≡ scheduled (take 16 w₀) (length w₀ - 16) → w ≡ schedule m
+-- r is the block m, which z follows, and w what it is continued to
+pub whole : (m r z w : List ℕ) → length m ≡ 16 → length z ≡ 48 → r ≡ m → w ≡ scheduled (take 16 (r ++ z)) (length (r ++ z) - 16) → w ≡ schedule m
 unfolding schedule
-whole m w₀ w t l-m e l-w first all =
-    let m-is : take 16 w₀ ≡ m = ap (λ (n : ℕ). take n w₀) (sym e) ∙ first ∙ ap (λ (n : ℕ). take n m) e ∙ take_all 16 m (le_of_eq l-m) in
-    all ∙ (λ i. scheduled (m-is i) (l-w i - 16))
+whole m r z w l-m l-z e-r all =
+    let sixteen : length r ≡ 16 = ap length e-r ∙ l-m in
+    let n : length (r ++ z) - 16 ≡ 48 = omega (arith, length-append r z) in
+    all ∙ (λ i. scheduled (take_at r z 16 sixteen i) (n i)) ∙ ap (λ (x : List ℕ). scheduled x 48) e-r
 
 pub length-scheduled : (m : List ℕ) (n : ℕ) → length (scheduled m n) ≡ length m + n
 unfolding scheduled

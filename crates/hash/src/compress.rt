@@ -1,12 +1,12 @@
 // The compression of one block: FIPS 180-4, section 6.2.2.
-ghost use Rattle.std.specs.Prelude.{◌≡◌, ◌+◌, ◌-◌, ◌*◌, ◌^◌, ◌<◌, ◌≤◌, length, take, slice_index_or};
+ghost use Rattle.std.specs.Prelude.{◌≡◌, ◌+◌, ◌-◌, ◌/◌, ◌^◌, ◌<◌, ◌≤◌, length, take, slice_index_or};
 ghost use Rattle.hash.specs.Word.{◌⊞◌, σ₀, σ₁};
 ghost use Rattle.hash.specs.Sha256.{up_to, scheduled, schedule, round_with, rounds, compress, hash};
 
 use crate::{message, word};
 
 // The constants of the rounds: FIPS 180-4, section 4.2.2.
-pub const K: [u32; 64] = [
+pub static K: [u32; 64] = [
     0x428a2f98, 0x71374491, 0xb5c0fbcf, 0xe9b5dba5, 0x3956c25b, 0x59f111f1, 0x923f82a4, 0xab1c5ed5,
     0xd807aa98, 0x12835b01, 0x243185be, 0x550c7dc3, 0x72be5d74, 0x80deb1fe, 0x9bdc06a7, 0xc19bf174,
     0xe49b69c1, 0xefbe4786, 0x0fc19dc6, 0x240ca1cc, 0x2de92c6f, 0x4a7484aa, 0x5cb0a9dc, 0x76f988da,
@@ -21,13 +21,10 @@ pub const K: [u32; 64] = [
 fn next_word(w16: u32, w15: u32, w7: u32, w2: u32) -> u32
     ensures { result ≡ σ₁ w2 ⊞ w7 ⊞ σ₀ w15 ⊞ w16 }
 {
-    word::add(
-        word::add(
-            word::add(word::small_sigma1(w2), w7),
-            word::small_sigma0(w15),
-        ),
-        w16,
-    )
+    word::small_sigma1(w2)
+        .wrapping_add(w7)
+        .wrapping_add(word::small_sigma0(w15))
+        .wrapping_add(w16)
 }
 
 // Continues a message schedule: each word from 16 on, by those before it.
@@ -35,10 +32,8 @@ pub fn extend(w: &mut [u32])
     requires { 16 ≤ length w.old }
     ensures { w.new ≡ scheduled (take 16 w.old) (length w.old - 16) }
 {
-    let mut t = 16;
-    while t < w.len() {
+    for t in 16..w.len() {
         w[t] = next_word(w[t - 16], w[t - 15], w[t - 7], w[t - 2]);
-        t += 1;
     }
 }
 
@@ -47,11 +42,7 @@ fn schedule(m: [u32; 16]) -> [u32; 64]
     ensures { result ≡ schedule m }
 {
     let mut w = [0u32; 64];
-    let mut t = 0;
-    while t < 16 {
-        w[t] = m[t];
-        t += 1;
-    }
+    w[..16].copy_from_slice(&m);
     extend(&mut w);
     w
 }
@@ -60,23 +51,14 @@ fn schedule(m: [u32; 16]) -> [u32; 64]
 fn round(s: [u32; 8], k: u32, w: u32) -> [u32; 8]
     ensures { result ≡ round_with k w s }
 {
-    let a = s[0];
-    let b = s[1];
-    let c = s[2];
-    let d = s[3];
-    let e = s[4];
-    let f = s[5];
-    let g = s[6];
-    let h = s[7];
-    let t1 = word::add(
-        word::add(
-            word::add(word::add(h, word::big_sigma1(e)), word::ch(e, f, g)),
-            k,
-        ),
-        w,
-    );
-    let t2 = word::add(word::big_sigma0(a), word::maj(a, b, c));
-    [word::add(t1, t2), a, b, c, word::add(d, t1), e, f, g]
+    let [a, b, c, d, e, f, g, h] = s;
+    let t1 = h
+        .wrapping_add(word::big_sigma1(e))
+        .wrapping_add(word::ch(e, f, g))
+        .wrapping_add(k)
+        .wrapping_add(w);
+    let t2 = word::big_sigma0(a).wrapping_add(word::maj(a, b, c));
+    [t1.wrapping_add(t2), a, b, c, d.wrapping_add(t1), e, f, g]
 }
 
 // The working variables after a round for each of the words, with the constants k.
@@ -85,11 +67,9 @@ pub fn rounds(before: [u32; 8], k: &[u32], w: &[u32]) -> [u32; 8]
     ensures { result ≡ rounds k.now w.now before (length w.now) }
 {
     let mut s = before;
-    let mut t = 0;
-    while t < w.len() {
+    for t in 0..w.len() {
         let next = round(s, k[t], w[t]);
         s = next;
-        t += 1;
     }
     s
 }
@@ -99,10 +79,8 @@ pub fn sum(x: &[u32], y: &[u32], z: &mut [u32])
     requires { (length x.now ≡ length z.old) × (length y.now ≡ length z.old) }
     ensures { z.new ≡ up_to (length z.old) (λ i. slice_index_or x.now i 0 ⊞ slice_index_or y.now i 0) }
 {
-    let mut i = 0;
-    while i < z.len() {
-        z[i] = word::add(x[i], y[i]);
-        i += 1;
+    for i in 0..z.len() {
+        z[i] = x[i].wrapping_add(y[i]);
     }
 }
 
@@ -110,14 +88,10 @@ pub fn sum(x: &[u32], y: &[u32], z: &mut [u32])
 pub fn compress(h: [u32; 8], m: [u32; 16]) -> [u32; 8]
     ensures { result ≡ compress h m }
 {
-    let k = K;
     let w = schedule(m);
     let mut s = h;
-    let mut t = 0;
-    while t < 64 {
-        let next = rounds(s, &k[t..t + 8], &w[t..t + 8]);
-        s = next;
-        t += 8;
+    for i in 0..8 {
+        s = rounds(s, &K[8 * i..8 * i + 8], &w[8 * i..8 * i + 8]);
     }
     let mut r = [0u32; 8];
     sum(&s, &h, &mut r);
@@ -131,20 +105,15 @@ pub struct State {
     pub blocks: u64,
 }
 
-// The state after the first n blocks of s, where it was `before` before them.
-pub fn blocks(before: State, s: &[u8], n: usize) -> State
-    requires { (64 * n ≤ length s.now) × (before.blocks + n < 2 ^ 64) }
-    ensures { (result.value ≡ hash before.value s.now n) × (result.blocks ≡ before.blocks + n) }
+// The state after the whole blocks of s, where it was `before` before them.
+pub fn blocks(before: State, s: &[u8]) -> State
+    requires { before.blocks + length s.now / 64 < 2 ^ 64 }
+    ensures { (result.value ≡ hash before.value s.now (length s.now / 64)) × (result.blocks ≡ before.blocks + length s.now / 64) }
 {
-    let mut value = before.value;
-    let mut blocks = before.blocks;
-    let mut i = 0;
-    while i < n {
-        let m = message::block(s, 64 * i);
-        let next = compress(value, m);
-        value = next;
-        blocks += 1;
-        i += 1;
+    let mut state = before;
+    for i in 0..s.len() / 64 {
+        state.value = compress(state.value, message::block(s, 64 * i));
+        state.blocks += 1;
     }
-    State { value, blocks }
+    state
 }

@@ -28,18 +28,17 @@ pub fn digest(msg: &[u8]) -> Hashed
     ensures { (result.digest ≡ digest msg.now) × (result.blocks ≡ block_count msg.now) }
 {
     let len = msg.len();
-    let value = H0;
-    let start = State { value, blocks: 0 };
-    let whole = compress::blocks(start, msg, len / 64);
-    let rest = 64 * (len / 64);
+    let start = State {
+        value: H0,
+        blocks: 0,
+    };
+    let whole = compress::blocks(start, msg);
     let mut last = [0u8; 128];
-    message::copy(&mut last, 0, &msg[rest..]);
+    last[..len % 64].copy_from_slice(&msg[64 * (len / 64)..]);
     message::close(&mut last, len % 64, len);
-    let all = compress::blocks(whole, &last, (len % 64 + 8) / 64 + 1);
-    let value = all.value;
-    let digest = message::bytes(value);
+    let all = compress::blocks(whole, &last[..64 * ((len % 64 + 8) / 64 + 1)]);
     Hashed {
-        digest,
+        digest: message::bytes(all.value),
         blocks: all.blocks,
     }
 }
@@ -51,8 +50,8 @@ fn leaf_message(position: [u8; 4], value: &[u8]) -> [u8; 21]
 {
     let mut msg = [0u8; 21];
     msg[0] = 0x00;
-    message::copy(&mut msg, 1, &position);
-    message::copy(&mut msg, 5, value);
+    msg[1..5].copy_from_slice(&position);
+    msg[5..5 + value.len()].copy_from_slice(value);
     msg
 }
 
@@ -80,8 +79,8 @@ fn node_message(left: [u8; 32], right: [u8; 32]) -> [u8; 65]
 {
     let mut msg = [0u8; 65];
     msg[0] = 0x01;
-    message::copy(&mut msg, 1, &left);
-    message::copy(&mut msg, 33, &right);
+    msg[1..33].copy_from_slice(&left);
+    msg[33..].copy_from_slice(&right);
     msg
 }
 

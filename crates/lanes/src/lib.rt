@@ -13,10 +13,8 @@ fn get(s: &[u32], i: usize, v: &mut [u32])
     requires { (i < 4) × (length s.now ≡ 4 * length v.old) }
     ensures { v.new ≡ lane 4 i (length v.old) s.now }
 {
-    let mut j = 0;
-    while j < v.len() {
+    for j in 0..v.len() {
         v[j] = s[4 * j + i];
-        j += 1;
     }
 }
 
@@ -25,10 +23,8 @@ fn put(s: &mut [u32], i: usize, v: &[u32])
     requires { (i < 4) × (length s.old ≡ 4 * length v.now) }
     ensures { s.new ≡ set_lane 4 i v.now (length v.now) s.old }
 {
-    let mut j = 0;
-    while j < v.len() {
+    for j in 0..v.len() {
         s[4 * j + i] = v[j];
-        j += 1;
     }
 }
 
@@ -37,15 +33,13 @@ fn four_rounds(state: &mut [u32], words: &[u32], k: &[u32])
     requires { (length state.old ≡ 32) × (length words.now ≡ 16) × (length k.now ≡ 4) }
     ensures { (i : ℕ) → i < 4 → lane 4 i 8 state.new ≡ rounds k.now (lane 4 i 4 words.now) (lane 4 i 8 state.old) 4 }
 {
-    let mut i = 0;
-    while i < 4 {
+    for i in 0..4 {
         let mut s = [0u32; 8];
         get(state, i, &mut s);
         let mut w = [0u32; 4];
         get(words, i, &mut w);
         let next = compress::rounds(s, k, &w);
         put(state, i, &next);
-        i += 1;
     }
 }
 
@@ -54,13 +48,11 @@ fn next_words(words: &mut [u32])
     requires { length words.old ≡ 64 }
     ensures { (i : ℕ) → i < 4 → lane 4 i 16 words.new ≡ drop 4 (scheduled (lane 4 i 16 words.old) 4) }
 {
-    let mut i = 0;
-    while i < 4 {
+    for i in 0..4 {
         let mut w = [0u32; 20];
         get(words, i, &mut w[..16]);
         compress::extend(&mut w);
         put(words, i, &w[4..]);
-        i += 1;
     }
 }
 
@@ -68,14 +60,11 @@ fn next_words(words: &mut [u32])
 fn compress(h: [u32; 32], m: [u32; 64]) -> [u32; 32]
     ensures { (i : ℕ) → i < 4 → lane 4 i 8 result ≡ compress (lane 4 i 8 h) (lane 4 i 16 m) }
 {
-    let k = compress::K;
     let mut s = h;
     let mut w = m;
-    let mut t = 0;
-    while t < 64 {
-        four_rounds(&mut s, &w[..16], &k[t..t + 4]);
+    for i in 0..16 {
+        four_rounds(&mut s, &w[..16], &compress::K[4 * i..4 * i + 4]);
         next_words(&mut w);
-        t += 4;
     }
     let mut r = [0u32; 32];
     compress::sum(&s, &h, &mut r);
@@ -88,20 +77,10 @@ fn start() -> [u32; 32]
 {
     let h = hash::H0;
     let mut s = [0u32; 32];
-    let mut i = 0;
-    while i < 4 {
+    for i in 0..4 {
         put(&mut s, i, &h);
-        i += 1;
     }
     s
-}
-
-// The block of a padded message from byte `at` on.
-fn words_at(message: [u8; 128], at: usize) -> [u32; 16]
-    requires { at ≤ 64 }
-    ensures { result ≡ words message at }
-{
-    message::block(&message, at)
 }
 
 // The block of each message from byte `at` on.
@@ -110,10 +89,8 @@ fn block(messages: &[[u8; 128]; 4], at: usize) -> [u32; 64]
     ensures { (i : ℕ) → i < 4 → lane 4 i 16 result ≡ words (get_or messages.now i []) at }
 {
     let mut m = [0u32; 64];
-    let mut i = 0;
-    while i < 4 {
-        put(&mut m, i, &words_at(messages[i], at));
-        i += 1;
+    for i in 0..4 {
+        put(&mut m, i, &message::block(&messages[i], at));
     }
     m
 }
@@ -124,21 +101,15 @@ pub fn digests(messages: &[[u8; 128]; 4], blocks: usize) -> [[u8; 32]; 4]
     ensures { (i : ℕ) → i < 4 → get_or result i [] ≡ bytes (hash H₀ (get_or messages.now i []) blocks) 8 }
 {
     let mut value = start();
-    let mut b = 0;
-    while b < blocks {
+    for b in 0..blocks {
         let next = compress(value, block(messages, 64 * b));
         value = next;
-        b += 1;
     }
-    let none = [0u8; 32];
-    let mut out = [none; 4];
-    let mut i = 0;
-    while i < 4 {
+    let mut out = [[0u8; 32]; 4];
+    for i in 0..4 {
         let mut v = [0u32; 8];
         get(&value, i, &mut v);
-        let d = message::bytes(v);
-        out[i] = d;
-        i += 1;
+        out[i] = message::bytes(v);
     }
     out
 }

@@ -112,16 +112,13 @@ module _ (s : List ℕ) (at end : ℕ) (inside : at ≤ length s) (is-end : end 
   end-byte : end < length s → (get_or s end 0 ≡ 9) ⊎ (get_or s end 0 ≡ 10)
   end-byte l = rw byte at (field-ends (drop at s) (first (drop at s)) (omega (arith, length-drop at s)))
 
-  -- What ends it before the text's end is a tab where it is not byte 10, and the other way round.
+  -- What ends it before the text's end is a tab where it is not byte 10.
   module _ (before : end ≡ length s → ⊥) where
     pub end_before : end < length s
     end_before = omega (arith, end-within)
 
     pub is-tab : (get_or s end 0 ≡ 10 → ⊥) → get_or s end 0 ≡ 9
     is-tab h = ⊎_elim (λ b. b) (λ b. absurd (h b)) (end-byte end_before)
-
-    pub is_newline : (get_or s end 0 ≡ 9 → ⊥) → get_or s end 0 ≡ 10
-    is_newline h = ⊎_elim (λ b. absurd (h b)) (λ b. b) (end-byte end_before)
 
   -- Where a tab ends it, another field follows.
   module _ (h : get_or s end 0 ≡ 9) where
@@ -151,12 +148,12 @@ module _ (s : List ℕ) (at end : ℕ) (inside : at ≤ length s) (is-end : end 
     pub last-fields : fields_at s at ≡ field_at s at ∷ []
     last-fields = (alone (drop at s) (first (drop at s)) (λ e. h (sym byte ∙ e))).1
 
-    last-next : next_line s at ≡ min (end + 1) (length s)
+    pub last-next : next_line s at ≡ min (end + 1) (length s)
     last-next =
         let e : at + length (line_at s at) + 1 ≡ end + 1 = omega (arith, ap length last_line) in
         rw e
 
-  no-tab-end : end ≡ length s → get_or s end 0 ≡ 9 → ⊥
+  pub no-tab-end : end ≡ length s → get_or s end 0 ≡ 9 → ⊥
   no-tab-end e h = omega (arith, get_or-eq_default s 0 {n = end} (omega arith))
 
   no-tab-newline : get_or s end 0 ≡ 10 → get_or s end 0 ≡ 9 → ⊥
@@ -165,11 +162,5 @@ module _ (s : List ℕ) (at end : ℕ) (inside : at ≤ length s) (is-end : end 
   pub end-fields : end ≡ length s → fields_at s at ≡ field_at s at ∷ []
   end-fields e = last-fields (no-tab-end e)
 
-  pub end-next : end ≡ length s → next_line s at ≡ end
-  end-next e = omega (arith, last-next (no-tab-end e))
-
   pub newline-fields : get_or s end 0 ≡ 10 → fields_at s at ≡ field_at s at ∷ []
   newline-fields e = last-fields (no-tab-newline e)
-
-  pub newline-next : get_or s end 0 ≡ 10 → end < length s → next_line s at ≡ end + 1
-  newline-next e l = omega (arith, last-next (no-tab-newline e))

@@ -1,5 +1,5 @@
 -- What reading a field as a number, with and without a tab behind it, or as a root says of the field.
-use mathlib.Core.Path.{◌≡◌, refl, sym, ◌∙◌}
+use mathlib.Core.Path.{◌≡◌, refl, sym, ap, ◌∙◌}
 use mathlib.Core.Bool.{Bool, true, false, ◌&&◌, and-false}
 use mathlib.Core.List.{List}
 use Prim.Native.Nat.{ℕ, ◌≤◌}
@@ -7,63 +7,63 @@ use native.Mathlib.Omega.{arith}
 use borrow.Author.Tests.{lt-ltb, le-ltb, eqb-true}
 use lib.Dec.{eqb, ltb}
 use lib.ListN.{length, get_or}
+use Rattle.std.specs.Prelude.{Option, Some, None}
 use Rattle.numbers.proofs.Tests.{and_right}
-use Rattle.lines.specs.declared.number.Number.TheVariants.{Value, Bad}
-use Rattle.lines.specs.declared.root.Root.{Root}
+use Rattle.lines.specs.declared.number.Number.{Number}
 use Rattle.lines.specs.Text.{decimal, is_number, is_root, hex_bytes}
 use Rattle.lines.specs.Cursor.{field_at, field_end, number_at, number_before_tab, root_at}
 use Rattle.lines.proofs.FieldEnds.{tab-within, is-tab}
 
-differ : (x y : ℕ) → Bad ≡ Value x y → ⊥
-differ x y e = let z : ◌≡◌ {A = ℕ} 0 1 = cc in omega arith
-
-same-value : (x y u v : ℕ) → Value x y ≡ Value u v → (x ≡ u) × (y ≡ v)
-same-value x y u v e = (cc, cc)
-
--- A field that is x and ends at `end`.
-abbrev pub IsNumber : List ℕ → ℕ → ℕ → ℕ → Type 0
-IsNumber s at x end = (is_number (field_at s at) ≡ true) × (x ≡ decimal (field_at s at)) × (end ≡ field_end s at)
+-- A field that is n.
+abbrev pub IsNumber : List ℕ → ℕ → Number → Type 0
+IsNumber s at n = (is_number (field_at s at) ≡ true) × (n.value ≡ decimal (field_at s at)) × (n.end ≡ field_end s at)
 
 module _ (s : List ℕ) (at : ℕ) where
-  number-when : (t : Bool) → is_number (field_at s at) ≡ t → (x end : ℕ) → number_at s at ≡ Value x end → IsNumber s at x end
+  number-when : (t : Bool) → is_number (field_at s at) ≡ t → (n : Number) → number_at s at ≡ Some n → IsNumber s at n
   unfolding number_at
-  number-when true e x end h =
-      let v = same-value (decimal (field_at s at)) (field_end s at) x end (rw e at h) in
-      (e, sym v.0, sym v.1)
-  number-when false e x end h = absurd (differ x end (rw e at h))
+  number-when true e n h =
+      let m : Number = record { value = decimal (field_at s at); end = field_end s at } in
+      let r : ◌≡◌ {A = Option Number} (Some m) (Some n) = rw e at h in
+      let v : n ≡ m = cc in
+      (e, ap (λ x. x.value) v, ap (λ x. x.end) v)
+  number-when false e n h =
+      let r : None ≡ Some n = rw e at h in
+      cc
 
   -- a field that is read as a number is one
-  pub number_read : (x end : ℕ) → number_at s at ≡ Value x end → IsNumber s at x end
-  number_read x end h = number-when (is_number (field_at s at)) refl x end h
+  pub number_read : (n : Number) → number_at s at ≡ Some n → IsNumber s at n
+  number_read n h = number-when (is_number (field_at s at)) refl n h
 
-  bad-when : (t : Bool) → is_number (field_at s at) ≡ t → number_at s at ≡ Bad → is_number (field_at s at) ≡ false
+  bad-when : (t : Bool) → is_number (field_at s at) ≡ t → number_at s at ≡ None → is_number (field_at s at) ≡ false
   unfolding number_at
-  bad-when true e h = absurd (differ (decimal (field_at s at)) (field_end s at) (sym (rw e at h)))
+  bad-when true e h =
+      let r : ◌≡◌ {A = Option Number} (Some (record { value = decimal (field_at s at); end = field_end s at })) None = rw e at h in
+      cc
   bad-when false e h = e
 
-  pub number-bad : number_at s at ≡ Bad → is_number (field_at s at) ≡ false
+  pub number-bad : number_at s at ≡ None → is_number (field_at s at) ≡ false
   number-bad h = bad-when (is_number (field_at s at)) refl h
 
   -- ---- before a tab
   abbrev Tab : Bool
   Tab = ltb (field_end s at) (length s) && eqb (get_or s (field_end s at) 0) 9
 
-  none-when : (t : Bool) → Tab ≡ t → number_at s at ≡ Bad → Bad ≡ number_before_tab s at
+  none-when : (t : Bool) → Tab ≡ t → number_at s at ≡ None → None ≡ number_before_tab s at
   unfolding number_before_tab
   none-when true e h = rw e (sym h)
   none-when false e h = rw e
 
   -- no number is none before a tab
-  pub before-tab-none : number_at s at ≡ Bad → Bad ≡ number_before_tab s at
+  pub before-tab-none : number_at s at ≡ None → None ≡ number_before_tab s at
   before-tab-none h = none-when Tab refl h
 
-  pub before-tab-end : (end : ℕ) → end ≡ field_end s at → end ≡ length s → Bad ≡ number_before_tab s at
+  pub before-tab-end : (end : ℕ) → end ≡ field_end s at → end ≡ length s → None ≡ number_before_tab s at
   unfolding number_before_tab
   before-tab-end end e h =
       let t : ltb (field_end s at) (length s) ≡ false = le-ltb (field_end s at) (length s) (omega arith) in
       rw t
 
-  pub before-tab-newline : (end : ℕ) → end ≡ field_end s at → get_or s end 0 ≡ 10 → Bad ≡ number_before_tab s at
+  pub before-tab-newline : (end : ℕ) → end ≡ field_end s at → get_or s end 0 ≡ 10 → None ≡ number_before_tab s at
   unfolding number_before_tab
   before-tab-newline end e h =
       let b : get_or s (field_end s at) 0 ≡ 10 = rw e at h in
@@ -78,38 +78,47 @@ module _ (s : List ℕ) (at : ℕ) where
         rw (t, b)
 
     -- neither the text's end nor byte 10 ends it: a tab does
-    pub before-tab-value : (x end : ℕ) → number_at s at ≡ Value x end → (end ≡ length s → ⊥) → (get_or s end 0 ≡ 10 → ⊥) → Value x end ≡ number_before_tab s at
-    before-tab-value x end v not_end not-newline =
-        let e = (number_read x end v).2 in
-        sym v ∙ before-tab-tab end e (is-tab s at end inside e not_end not-newline)
+    pub before-tab-value : (n : Number) → number_at s at ≡ Some n → (n.end ≡ length s → ⊥) → (get_or s n.end 0 ≡ 10 → ⊥) → Some n ≡ number_before_tab s at
+    before-tab-value n v not_end not-newline =
+        let e = (number_read n v).2 in
+        sym v ∙ before-tab-tab n.end e (is-tab s at n.end inside e not_end not-newline)
 
     -- what is read before a tab is a number with a tab behind it
-    value-when : (t : Bool) → Tab ≡ t → (x end : ℕ) → number_before_tab s at ≡ Value x end → IsNumber s at x end × (get_or s end 0 ≡ 9)
+    value-when : (t : Bool) → Tab ≡ t → (n : Number) → number_before_tab s at ≡ Some n → IsNumber s at n × (get_or s n.end 0 ≡ 9)
     unfolding number_before_tab
-    value-when true e x end h =
-        let n = number_read x end (rw e at h) in
-        (n, rw n.2 (eqb-true _ _ (and_right (ltb (field_end s at) (length s)) _ e)))
-    value-when false e x end h = absurd (differ x end (rw e at h))
+    value-when true e n h =
+        let is = number_read n (rw e at h) in
+        (is, rw is.2 (eqb-true _ _ (and_right (ltb (field_end s at) (length s)) _ e)))
+    value-when false e n h =
+        let r : None ≡ Some n = rw e at h in
+        cc
 
-    pub before-tab-read : (x end : ℕ) → number_before_tab s at ≡ Value x end → IsNumber s at x end × (get_or s end 0 ≡ 9)
-    before-tab-read x end h = value-when Tab refl x end h
+    pub before-tab-read : (n : Number) → number_before_tab s at ≡ Some n → IsNumber s at n × (get_or s n.end 0 ≡ 9)
+    before-tab-read n h = value-when Tab refl n h
 
     -- where nothing is, a field with a tab behind it is no number
-    pub before-tab-bad : number_before_tab s at ≡ Bad → get_or s (field_end s at) 0 ≡ 9 → is_number (field_at s at) ≡ false
+    pub before-tab-bad : number_before_tab s at ≡ None → get_or s (field_end s at) 0 ≡ 9 → is_number (field_at s at) ≡ false
     before-tab-bad h b = number-bad (before-tab-tab (field_end s at) refl b ∙ h)
 
--- ---- a root
-module _ (s : List ℕ) (at : ℕ) (r : Root) (is : r ≡ root_at s at) where
-  valid-when : (t : Bool) → is_root (field_at s at) ≡ t → r.valid ≡ is_root (field_at s at)
+  -- ---- a root
+  root-when : (t : Bool) → is_root (field_at s at) ≡ t → (root : List ℕ) → root_at s at ≡ Some root → (is_root (field_at s at) ≡ true) × (root ≡ hex_bytes (field_at s at))
   unfolding root_at
-  valid-when true e = rw (is, e)
-  valid-when false e = rw (is, e)
+  root-when true e root h =
+      let r : Some (hex_bytes (field_at s at)) ≡ Some root = rw e at h in
+      (e, cc)
+  root-when false e root h =
+      let r : None ≡ Some root = rw e at h in
+      (cc, cc)
 
-  pub root-valid : r.valid ≡ is_root (field_at s at)
-  root-valid = valid-when (is_root (field_at s at)) refl
+  pub root-read : (root : List ℕ) → root_at s at ≡ Some root → (is_root (field_at s at) ≡ true) × (root ≡ hex_bytes (field_at s at))
+  root-read root h = root-when (is_root (field_at s at)) refl root h
 
-  pub root-bytes : r.valid ≡ true → r.bytes ≡ hex_bytes (field_at s at)
+  no-root-when : (t : Bool) → is_root (field_at s at) ≡ t → root_at s at ≡ None → is_root (field_at s at) ≡ false
   unfolding root_at
-  root-bytes h =
-      let e : is_root (field_at s at) ≡ true = sym root-valid ∙ h in
-      rw (is, e)
+  no-root-when true e h =
+      let r : Some (hex_bytes (field_at s at)) ≡ None = rw e at h in
+      cc
+  no-root-when false e h = e
+
+  pub no-root : root_at s at ≡ None → is_root (field_at s at) ≡ false
+  no-root h = no-root-when (is_root (field_at s at)) refl h

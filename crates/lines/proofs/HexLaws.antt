@@ -10,9 +10,11 @@ use borrow.Author.Tests.{leb-true, lt-leb, eqb-true, eqb-false, ne_eqb}
 use lib.Dec.{eqb, leb}
 use lib.ListN.{length, get_or, take, set}
 use lib.Seq.{take-suc-set, take_all}
+use Rattle.std.specs.Prelude.{Some, None}
+use Rattle.std.proofs.lemmas.List.{nil_from_length}
 use Rattle.numbers.proofs.Tests.{and_left, and_right}
 use Rattle.lines.specs.Text.{all_pass, is_digit, is_hex_digit, hex_value, is_root, hex_bytes}
-use Rattle.lines.specs.Cursor.{field_at, zeros, root_at}
+use Rattle.lines.specs.Cursor.{field_at, root_at}
 use Rattle.lines.proofs.NumberLaws.{digit_low, digit-high}
 use Rattle.lines.proofs.FieldLaws.{ends_field, field-more, field-stops, field-inside}
 
@@ -123,12 +125,8 @@ module _ (s : List ℕ) (j n : ℕ) (h : j + 1 < length s) where
 abbrev pub Read : List ℕ → ℕ → List ℕ → ℕ → Type 0
 Read s at bytes i = (is_root (field_at s at) ≡ rest_is_root s (at + 2 * i) (2 * i)) × (hex_bytes (field_at s at) ≡ take i bytes ++ hex_bytes (field_at s (at + 2 * i)))
 
-no_bytes : (xs : List ℕ) → length xs ≡ 0 → xs ≡ []
-no_bytes [] e = refl
-no_bytes (x ∷ xs) e = absurd (omega arith)
-
 module _ (s : List ℕ) (at : ℕ) where
-  pub root-bad : is_root (field_at s at) ≡ false → record { valid = false; bytes = zeros 32 } ≡ root_at s at
+  pub root-bad : is_root (field_at s at) ≡ false → None ≡ root_at s at
   unfolding root_at
   root-bad e = sym (rw e)
 
@@ -159,9 +157,9 @@ module _ (s : List ℕ) (at : ℕ) where
     pub read-long : eqb (length (field_at s (at + 64))) 0 ≡ false → is_root (field_at s at) ≡ false
     read-long e = read.0 ∙ rest-long s (at + 64) 64 refl e
 
-    pub read_all : length bytes ≡ 32 → eqb (length (field_at s (at + 64))) 0 ≡ true → record { valid = true; bytes = bytes } ≡ root_at s at
+    pub read_all : length bytes ≡ 32 → eqb (length (field_at s (at + 64))) 0 ≡ true → Some bytes ≡ root_at s at
     unfolding root_at hex_bytes
     read_all l e =
-        let none : field_at s (at + 64) ≡ [] = no_bytes (field_at s (at + 64)) (eqb-true (length (field_at s (at + 64))) 0 e) in
+        let none : field_at s (at + 64) ≡ [] = nil_from_length (field_at s (at + 64)) (eqb-true (length (field_at s (at + 64))) 0 e) in
         let held : hex_bytes (field_at s at) ≡ bytes = read.1 ∙ rw (none, append-nil, take_all 32 bytes (omega arith)) in
         sym (rw (read.0 ∙ rest-none s (at + 64) 64 refl none, held))

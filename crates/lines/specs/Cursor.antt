@@ -1,11 +1,8 @@
 -- Where the fields and lines of a text lie: the field and the line that start at an index, what is read there, and what a buffer holds then.
-use Rattle.std.specs.Prelude.{Bool, true, false, cond, ◌&&◌, ◌||◌, List, [], ◌∷◌, ◌++◌, map, ℕ, ◌+◌, ◌*◌, min, length, get_or, take, drop, replicate, eqb, leb, ltb}
+use Rattle.std.specs.Prelude.{Bool, cond, ◌&&◌, ◌||◌, List, [], ◌∷◌, ◌++◌, map, ℕ, ◌+◌, ◌*◌, min, length, get_or, take, drop, eqb, leb, ltb, Option, Some, None}
 use Rattle.numbers.specs.Numbers.{bytes4, bytes}
 use Rattle.lines.specs.declared.number.Number.{Number}
-use Rattle.lines.specs.declared.number.Number.TheVariants as number
-use Rattle.lines.specs.declared.root.Root.{Root}
 use Rattle.lines.specs.declared.row.Row.{Row}
-use Rattle.lines.specs.declared.row.Row.TheVariants as row
 use Rattle.lines.specs.Text.{all_pass, decimal, is_number, is_root, hex_bytes, fields}
 use Rattle.lines.specs.Lines.{front, last}
 
@@ -36,34 +33,31 @@ abbrev pub next_line : List ℕ → ℕ → ℕ
 next_line s at = min (at + length (line_at s at) + 1) (length s)
 
 -- The field as a number, and where it ends.
-unfoldable pub number_at : List ℕ → ℕ → Number
-number_at s at = cond (is_number (field_at s at)) (number.Value (decimal (field_at s at)) (field_end s at)) number.Bad
+unfoldable pub number_at : List ℕ → ℕ → Option Number
+number_at s at = cond (is_number (field_at s at)) (Some (record { value = decimal (field_at s at); end = field_end s at })) None
 
 -- The same where a tab ends the field.
-unfoldable pub number_before_tab : List ℕ → ℕ → Number
-number_before_tab s at = cond (ltb (field_end s at) (length s) && eqb (get_or s (field_end s at) 0) 9) (number_at s at) number.Bad
+unfoldable pub number_before_tab : List ℕ → ℕ → Option Number
+number_before_tab s at = cond (ltb (field_end s at) (length s) && eqb (get_or s (field_end s at) 0) 9) (number_at s at) None
 
--- The field as a root; 32 zeros where it is none.
-abbrev pub zeros : ℕ → List ℕ
-zeros n = replicate n 0
-
-unfoldable pub root_at : List ℕ → ℕ → Root
-root_at s at = cond (is_root (field_at s at)) (record { valid = true; bytes = hex_bytes (field_at s at) }) (record { valid = false; bytes = zeros 32 })
+-- The bytes of the root that the field is.
+unfoldable pub root_at : List ℕ → ℕ → Option (List ℕ)
+root_at s at = cond (is_root (field_at s at)) (Some (hex_bytes (field_at s at))) None
 
 -- The rest of the line as numbers, behind `count` others.
-unfoldable pub numbers_at : List ℕ → ℕ → ℕ → Row
-numbers_at s at count = cond (all_pass is_number (fields_at s at)) (row.Read (count + length (fields_at s at)) (next_line s at)) row.Bad
+unfoldable pub numbers_at : List ℕ → ℕ → ℕ → Option Row
+numbers_at s at count = cond (all_pass is_number (fields_at s at)) (Some (record { count = count + length (fields_at s at); next = next_line s at })) None
 
 -- The same as exactly `size` numbers.
-unfoldable pub exactly_at : List ℕ → ℕ → ℕ → ℕ → Row
-exactly_at s at count size = cond (all_pass is_number (fields_at s at) && eqb (length (fields_at s at)) size) (row.Read (count + size) (next_line s at)) row.Bad
+unfoldable pub exactly_at : List ℕ → ℕ → ℕ → ℕ → Option Row
+exactly_at s at count size = cond (all_pass is_number (fields_at s at) && eqb (length (fields_at s at)) size) (Some (record { count = count + size; next = next_line s at })) None
 
 -- The same as one number or more and a root, which takes the place of eight.
 abbrev pub is_item : List (List ℕ) → Bool
 is_item fs = all_pass is_number (front fs) && leb 1 (length (front fs)) && is_root (last fs)
 
-unfoldable pub item_row_at : List ℕ → ℕ → ℕ → Row
-item_row_at s at count = cond (is_item (fields_at s at)) (row.Read (count + length (front (fields_at s at)) + 8) (next_line s at)) row.Bad
+unfoldable pub item_row_at : List ℕ → ℕ → ℕ → Option Row
+item_row_at s at count = cond (is_item (fields_at s at)) (Some (record { count = count + length (front (fields_at s at)) + 8; next = next_line s at })) None
 
 -- What those lines append to a buffer.
 abbrev pub number_bytes : List (List ℕ) → List ℕ

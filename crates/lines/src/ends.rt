@@ -11,5 +11,5 @@ pub fn field_over(s: &[u8], i: usize) -> bool
         return true;
     }
     let d = s[i];
-    (d == 9) | (d == 10)
+    (d == b'\t') | (d == b'\n')
 }

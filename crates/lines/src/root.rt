@@ -1,60 +1,42 @@
 // A root field: 64 lower-case hexadecimal digits.
-ghost use Rattle.std.specs.Prelude.{◌≡◌, true, false, ◌≤◌, length};
+ghost use Rattle.std.specs.Prelude.{◌≡◌, true, ◌≤◌, length};
 ghost use Rattle.lines.specs.Text.{is_hex_digit, hex_value};
-ghost use Rattle.lines.specs.Cursor.{zeros, root_at};
+ghost use Rattle.lines.specs.Cursor.{root_at};
 
 use crate::ends::field_over;
-
-// Whether the field is a root, and its 32 bytes; zeros where it is none.
-#[derive(Clone, Copy)]
-pub struct Root {
-    pub valid: bool,
-    pub bytes: [u8; 32],
-}
 
 fn is_hex_digit(d: u8) -> bool
     ensures { result ≡ is_hex_digit d }
 {
-    ((48 <= d) & (d <= 57)) | ((97 <= d) & (d <= 102))
+    d.is_ascii_digit() | ((b'a' <= d) & (d <= b'f'))
 }
 
 fn hex_value(d: u8) -> u8
     requires { is_hex_digit d ≡ true }
     ensures { result ≡ hex_value d }
 {
-    if d <= 57 { d - 48 } else { d - 87 }
+    if d <= b'9' { d - b'0' } else { d - b'a' + 10 }
 }
 
-fn invalid() -> Root
-    ensures { result ≡ record { valid = false; bytes = zeros 32 } }
-{
-    Root {
-        valid: false,
-        bytes: [0u8; 32],
-    }
-}
-
-// The field of s that starts at `at`, as a root.
-pub fn root_at(s: &[u8], at: usize) -> Root
+// The 32 bytes of the root that the field of s at `at` is.
+pub fn root_at(s: &[u8], at: usize) -> Option<[u8; 32]>
     requires { at ≤ length s.now }
     ensures { result ≡ root_at s.now at }
 {
     if s.len() - at < 64 {
-        return invalid();
+        return None;
     }
     let mut bytes = [0u8; 32];
-    let mut i = 0;
-    while i < 32 {
+    for i in 0..32 {
         let high = s[at + 2 * i];
         let low = s[at + 2 * i + 1];
         if !(is_hex_digit(high) & is_hex_digit(low)) {
-            return invalid();
+            return None;
         }
         bytes[i] = 16 * hex_value(high) + hex_value(low);
-        i += 1;
     }
     if !field_over(s, at + 64) {
-        return invalid();
+        return None;
     }
-    Root { valid: true, bytes }
+    Some(bytes)
 }

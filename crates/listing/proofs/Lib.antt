@@ -1,4 +1,3 @@
 mod DigitLaws
 mod ListedLines
 mod ListedSheet
-mod PlacingLaws

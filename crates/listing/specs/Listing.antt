@@ -51,8 +51,8 @@ claims m n k pairs a b c items wits = claims_head pairs ++ claim_lines m n k a b
 -- The same of a reading and the buffers that it wrote from the front.
 abbrev pub claims_read : Reading → List ℕ → List ℕ → List ℕ → List ℕ → List ℕ → List ℕ
 claims_read r a b c items wits =
-    claims r.m r.n r.k r.pairs
-    (take (12 * r.a) a) (take (12 * r.b) b) (take (12 * r.c) c) (take (r.pairs * item_size r.m r.n) items) (take (r.pairs * (4 * r.k)) wits)
+    claims r.sizes.m r.sizes.n r.sizes.k r.pairs
+    (take (12 * r.a) a) (take (12 * r.b) b) (take (12 * r.c) c) (take (r.pairs * item_size r.sizes.m r.sizes.n) items) (take (r.pairs * (4 * r.sizes.k)) wits)
 
 -- `claims` and the items; or only `refused` and the number.
 abbrev pub listing_of : ℕ → List Line → List ℕ

@@ -1,173 +1,139 @@
 // The listing's lines, from what the sheet reader wrote.
-ghost use Rattle.std.specs.Prelude.{◌≡◌, true, cond, ◌+◌, ◌*◌, ◌≤◌, ◌<◌, length, take};
+ghost use Rattle.std.specs.Prelude.{◌≡◌, true, cond, [], ◌∷◌, ◌++◌, ◌+◌, ◌*◌, ◌≤◌, ◌<◌, length, take};
 ghost use Rattle.theory.specs.Sizes.{has_length, circuit_in_order};
 ghost use Rattle.theory.specs.Fp.{item_size, items_below};
 ghost use Rattle.scan.specs.Sheet.{filled};
-ghost use Rattle.listing.specs.Placing.{placed};
-ghost use Rattle.listing.specs.Listing.{verdict_word, claim_line, claim_lines, claims_head, refusal, claims_read, listing};
+ghost use Rattle.lines.specs.LineWriting.{write_number, write_line};
+ghost use Rattle.listing.specs.Listing.{verdict_word, claim_line, claim_lines, claims_read, listing};
 
-use crate::text;
+use arrayvec::ArrayString;
+use itoa::Buffer;
+use r1cs::circuit::Circuit;
 use validation::reading::Reading;
 
-// Puts the word of an item that holds, or of one that differs.
-fn put_verdict(out: &mut [u8], at: usize, holds: bool) -> usize
-    requires { (at + 7 ≤ length out.old) × (length out.old ≤ 65536) }
-    ensures end { result ≡ at + length (verdict_word holds) }
-    ensures out { out.new ≡ placed at (verdict_word holds) out.old }
+// A listing's greatest length.
+const MOST: usize = 2122;
+
+// Puts a number in decimal: by `itoa`, since no clause says that `write!` gives no error, and the listing has none.
+fn put_number(text: &mut ArrayString<MOST>, x: u32)
+    requires { length text.old.bytes + 10 ≤ MOST }
+    ensures digits { text.new.bytes ≡ text.old.bytes ++ write_number x }
+    ensures few { length text.new.bytes ≤ length text.old.bytes + 10 }
+    ensures two { x < 100 → length text.new.bytes ≤ length text.old.bytes + 2 }
 {
-    if holds {
-        text::put(out, at, b"holds")
-    } else {
-        text::put(out, at, b"differs")
-    }
+    let mut buffer = Buffer::new();
+    text.push_str(buffer.format(x));
+}
+
+// Puts a number and a tab.
+fn put_field(text: &mut ArrayString<MOST>, x: u32)
+    requires { length text.old.bytes + 11 ≤ MOST }
+    ensures field { text.new.bytes ≡ text.old.bytes ++ (write_number x ++ 9 ∷ []) }
+    ensures few { length text.new.bytes ≤ length text.old.bytes + 11 }
+    ensures two { x < 100 → length text.new.bytes ≤ length text.old.bytes + 3 }
+{
+    put_number(text, x);
+    text.push_str("\t");
+}
+
+// Puts the line of a word and a number.
+fn put_line(text: &mut ArrayString<MOST>, word: &str, x: u32)
+    requires { length text.old.bytes + (length word.now + 12) ≤ MOST }
+    ensures line { text.new.bytes ≡ text.old.bytes ++ write_line word.now (write_number x ∷ []) }
+    ensures two { x < 100 → length text.new.bytes ≤ length text.old.bytes + (length word.now + 4) }
+{
+    text.push_str(word);
+    text.push_str("\t");
+    put_number(text, x);
+    text.push_str("\n");
+}
+
+// The word of an item that holds, or of one that differs.
+fn verdict_word(holds: bool) -> &'static str
+    ensures word { result.now ≡ verdict_word holds }
+    ensures few { length result.now ≤ 7 }
+{
+    if holds { "holds" } else { "differs" }
 }
 
 // Puts the line of item i with its value and its e.
-fn put_claim(out: &mut [u8], at: usize, i: u32, value: u32, e: u32) -> usize
-    requires { (at + 33 ≤ length out.old) × (length out.old ≤ 65536) × (i < 64) }
-    ensures end { (result ≡ at + length (claim_line i value e)) × (result ≤ at + 33) }
-    ensures out { out.new ≡ placed at (claim_line i value e) out.old }
+fn put_claim(text: &mut ArrayString<MOST>, i: u32, value: u32, e: u32)
+    requires { (length text.old.bytes + 33 ≤ MOST) × (i < 64) }
+    ensures line { text.new.bytes ≡ text.old.bytes ++ claim_line i value e }
+    ensures few { length text.new.bytes ≤ length text.old.bytes + 33 }
 {
-    let first = text::put_field(out, at, i);
-    let second = text::put_field(out, first, value);
-    let word = text::put_field(out, second, e);
-    let end = put_verdict(out, word, value == e);
-    text::put(out, end, b"\n")
+    put_field(text, i);
+    put_field(text, value);
+    put_field(text, e);
+    text.push_str(verdict_word(value == e));
+    text.push_str("\n");
 }
 
-// `claims` and the item count.
-fn put_head(out: &mut [u8], at: usize, count: u32) -> usize
-    requires { (at + 18 ≤ length out.old) × (length out.old ≤ 65536) }
-    ensures end { result ≡ at + length (claims_head count) }
-    ensures out { out.new ≡ placed at (claims_head count) out.old }
-{
-    let word = text::put(out, at, b"claims\t");
-    let end = text::put_number(out, word, count);
-    text::put(out, end, b"\n")
-}
-
-// `refused` and the number.
-fn put_refusal(out: &mut [u8], at: usize, answer: u32) -> usize
-    requires { (at + 19 ≤ length out.old) × (length out.old ≤ 65536) }
-    ensures end { result ≡ at + length (refusal answer) }
-    ensures out { out.new ≡ placed at (refusal answer) out.old }
-{
-    let word = text::put(out, at, b"refused\t");
-    let end = text::put_number(out, word, answer);
-    text::put(out, end, b"\n")
-}
-
-// Puts the line of each item; an item has `size` bytes.
+// Puts the line of each item of a reading.
 fn put_claims(
-    m: usize,
-    n: usize,
-    k: usize,
-    pairs: usize,
-    size: usize,
-    a: &[u8],
-    b: &[u8],
-    c: &[u8],
+    text: &mut ArrayString<MOST>,
+    r: Reading,
+    circuit: &Circuit<'_>,
     items: &[u8],
     wits: &[u8],
-    out: &mut [u8],
-    at: usize,
-) -> usize
-    requires m_bound { (m ≤ 6) × (n ≤ 64) × (k ≤ 64) × (pairs ≤ 64) × (length items.now ≡ pairs * size) × (length wits.now ≡ pairs * (4 * k)) × (size ≡ item_size m n) }
-    requires value { (items_below m n pairs items.now ≡ true) × (circuit_in_order m n k a.now b.now c.now ≡ true) × (at + 33 * pairs ≤ length out.old) × (length out.old ≤ 65536) }
-    ensures end { result ≡ at + length (claim_lines m n k a.now b.now c.now items.now wits.now pairs) }
-    ensures out { out.new ≡ placed at (claim_lines m n k a.now b.now c.now items.now wits.now pairs) out.old }
+)
+    requires lengths { (length text.old.bytes + 33 * r.pairs ≤ MOST) × (length items.now ≡ r.pairs * item_size r.sizes.m r.sizes.n) × (length wits.now ≡ r.pairs * (4 * r.sizes.k)) }
+    requires below { items_below r.sizes.m r.sizes.n r.pairs items.now ≡ true }
+    requires in_order { circuit_in_order r.sizes.m r.sizes.n r.sizes.k circuit.now.a.now circuit.now.b.now circuit.now.c.now ≡ true }
+    ensures { text.new.bytes ≡ text.old.bytes ++ claim_lines r.sizes.m r.sizes.n r.sizes.k circuit.now.a.now circuit.now.b.now circuit.now.c.now items.now wits.now r.pairs }
 {
-    let width = 4 * k;
-    let mut item = 0;
-    let mut wit = 0;
-    let mut place = at;
-    let mut i = 0;
-    while i < pairs {
-        let next_item = item + size;
-        let next_wit = wit + width;
-        let value = checks::claims::item_value(
-            m,
-            n,
-            k,
-            a,
-            b,
-            c,
-            &items[item..next_item],
-            &wits[wit..next_wit],
-        );
-        let e = numbers::get(&items[item..next_item], 0);
-        let next = put_claim(out, place, i as u32, value, e);
-        place = next;
-        item = next_item;
-        wit = next_wit;
-        i += 1;
+    let size = r.sizes.item_size();
+    let width = 4 * r.sizes.k;
+    for i in 0..r.pairs {
+        let item = &items[i * size..(i + 1) * size];
+        let wit = &wits[i * width..(i + 1) * width];
+        let value = checks::claims::item_value(r.sizes, circuit, item, wit);
+        put_claim(text, i as u32, value, numbers::get(item, 0));
     }
-    place
 }
 
 // Puts the listing of a reading that passed every check: `claims`, the item count and the line of each item.
 fn put_listing(
+    text: &mut ArrayString<MOST>,
     r: Reading,
     a: &[u8],
     b: &[u8],
     c: &[u8],
     items: &[u8],
     wits: &[u8],
-    out: &mut [u8],
-) -> usize
-    requires m_bound { (r.m ≤ 6) × (r.n ≤ 64) × (r.k ≤ 64) × (r.pairs ≤ 64) × (length out.old ≡ 2122) }
-    requires a_in_bounds { (12 * r.a ≤ length a.now) × (12 * r.b ≤ length b.now) × (12 * r.c ≤ length c.now) × (r.pairs * item_size r.m r.n ≤ length items.now) × (r.pairs * (4 * r.k) ≤ length wits.now) }
-    requires value { (items_below r.m r.n r.pairs (take (r.pairs * item_size r.m r.n) items.now) ≡ true) × (circuit_in_order r.m r.n r.k (take (12 * r.a) a.now) (take (12 * r.b) b.now) (take (12 * r.c) c.now) ≡ true) }
-    ensures length { result ≡ length (claims_read r a.now b.now c.now items.now wits.now) }
-    ensures out { out.new ≡ filled (claims_read r a.now b.now c.now items.now wits.now) out.old }
+)
+    requires lengths { (text.old.bytes ≡ []) × (12 * r.a ≤ length a.now) × (12 * r.b ≤ length b.now) × (12 * r.c ≤ length c.now) × (r.pairs * item_size r.sizes.m r.sizes.n ≤ length items.now) × (r.pairs * (4 * r.sizes.k) ≤ length wits.now) }
+    requires below { items_below r.sizes.m r.sizes.n r.pairs (take (r.pairs * item_size r.sizes.m r.sizes.n) items.now) ≡ true }
+    requires in_order { circuit_in_order r.sizes.m r.sizes.n r.sizes.k (take (12 * r.a) a.now) (take (12 * r.b) b.now) (take (12 * r.c) c.now) ≡ true }
+    ensures { text.new.bytes ≡ claims_read r a.now b.now c.now items.now wits.now }
 {
-    let m = r.m as usize;
-    let n = r.n as usize;
-    let k = r.k as usize;
-    let pairs = r.pairs as usize;
-    let a_end = 12 * (r.a as usize);
-    let b_end = 12 * (r.b as usize);
-    let c_end = 12 * (r.c as usize);
-    let size = checks::item::size(m, n);
-    let items_end = pairs * size;
-    let wits_end = pairs * (4 * k);
-    let at = put_head(out, 0, r.pairs);
-    put_claims(
-        m,
-        n,
-        k,
-        pairs,
-        size,
-        &a[..a_end],
-        &b[..b_end],
-        &c[..c_end],
-        &items[..items_end],
-        &wits[..wits_end],
-        out,
-        at,
-    )
+    put_line(text, "claims", r.pairs as u32);
+    let circuit = Circuit {
+        a: &a[..12 * r.a],
+        b: &b[..12 * r.b],
+        c: &c[..12 * r.c],
+    };
+    let items = &items[..r.pairs * r.sizes.item_size()];
+    let wits = &wits[..r.pairs * (4 * r.sizes.k)];
+    put_claims(text, r, &circuit, items, wits);
 }
 
-// Writes the listing; the sheet reader writes to the five buffers.
-fn write_in(
-    sheet: &[u8],
-    a: &mut [u8],
-    b: &mut [u8],
-    c: &mut [u8],
-    items: &mut [u8],
-    wits: &mut [u8],
-    out: &mut [u8],
-) -> usize
-    requires { (length a.old ≡ 12288) × (length b.old ≡ 12288) × (length c.old ≡ 12288) × (length items.old ≡ 20224) × (length wits.old ≡ 16384) × (length out.old ≡ 2122) }
-    ensures length { result ≡ length (listing sheet.now) }
-    ensures out { out.new ≡ filled (listing sheet.now) out.old }
+// The listing of a sheet of any bytes.
+fn text_of(sheet: &[u8]) -> ArrayString<MOST>
+    ensures { result.bytes ≡ listing sheet.now }
 {
-    let r = sheet::read::read(sheet, a, b, c, items, wits);
-    let answer = r.answer;
-    if answer != 0 {
-        return put_refusal(out, 0, answer);
+    let mut a = [0u8; 12288];
+    let mut b = [0u8; 12288];
+    let mut c = [0u8; 12288];
+    let mut items = [0u8; 20224];
+    let mut wits = [0u8; 16384];
+    let read = sheet::read::read(sheet, &mut a, &mut b, &mut c, &mut items, &mut wits);
+    let mut text = ArrayString::new();
+    match read {
+        Ok(r) => put_listing(&mut text, r, &a, &b, &c, &items, &wits),
+        Err(refusal) => put_line(&mut text, "refused", refusal.number()),
     }
-    put_listing(r, a, b, c, items, wits, out)
+    text
 }
 
 // Writes the listing of a sheet of any bytes from the front of a buffer of 2,122 bytes, the greatest length, and returns its length.
@@ -177,13 +143,12 @@ pub fn write(sheet: &[u8], out: &mut [u8]) -> usize
     ensures out { out.new ≡ cond (has_length out.old 2122) (filled (listing sheet.now) out.old) out.old }
     ensures within { result ≤ length out.new }
 {
-    if out.len() != 2122 {
+    if out.len() != MOST {
         return 0;
     }
-    let mut a = [0u8; 12288];
-    let mut b = [0u8; 12288];
-    let mut c = [0u8; 12288];
-    let mut items = [0u8; 20224];
-    let mut wits = [0u8; 16384];
-    write_in(sheet, &mut a, &mut b, &mut c, &mut items, &mut wits, out)
+    let text = text_of(sheet);
+    let bytes = text.as_str().as_bytes();
+    let end = bytes.len();
+    out[..end].copy_from_slice(bytes);
+    end
 }

@@ -1,5 +1,7 @@
 -- Lists whose numbers are all below a bound: the test `all_below` and what it says of each entry.
-use mathlib.Core.Path.{◌≡◌, refl}
+use mathlib.Core.Path.{◌≡◌, refl, sym, ap, ap₂, ◌∙◌}
+use native.Mathlib.Nat.{add-zero}
+use Rattle.std.specs.List.{list_all, range_with_len}
 use mathlib.Core.Bool.{Bool, true, false, ◌&&◌, false≢true}
 use mathlib.Core.List.{List, [], ◌∷◌}
 use Prim.Native.Nat.{ℕ, zero, suc, ◌+◌, ◌≤◌, ◌<◌}
@@ -37,6 +39,16 @@ pub all-below : (m : ℕ) (xs : List ℕ) → Below m xs → all_below m xs ≡ 
 unfolding all_below
 all-below m [] h = refl
 all-below m (x ∷ xs) h = simp (lt-ltb x m (h 0 (omega arith))) (all-below m xs (λ i l. h (suc i) (omega arith)))
+
+-- The test by index.
+from-index : (m : ℕ) (xs : List ℕ) (a : ℕ) (test : ℕ → Bool) → ((i : ℕ) → i < length xs → test (a + i) ≡ ltb (get_or xs i 0) m)
+    → list_all test (range_with_len a (length xs)) ≡ all_below m xs
+unfolding all_below
+from-index m [] a test h = refl
+from-index m (x ∷ xs) a test h = ap₂ ◌&&◌ (ap test (sym (add-zero a)) ∙ h 0 (omega arith)) (from-index m xs (a + 1) test (λ i l. ap test (omega arith) ∙ h (suc i) (omega arith)))
+
+pub by-index : (m : ℕ) (xs : List ℕ) → list_all (λ i. ltb (get_or xs i 0) m) (range_with_len 0 (length xs)) ≡ all_below m xs
+by-index m xs = from-index m xs 0 (λ i. ltb (get_or xs i 0) m) (λ i l. ap (λ (j : ℕ). ltb (get_or xs j 0) m) (omega arith))
 
 -- The test of a list after its first i entries passed: it is the test of the rest.
 module _ (m : ℕ) (xs : List ℕ) where

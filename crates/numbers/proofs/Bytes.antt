@@ -3,26 +3,22 @@ use mathlib.Core.Path.{◌≡◌, refl, sym, ap, ap₂, ◌∙◌}
 use mathlib.Core.List.{List, [], ◌∷◌, ◌++◌}
 use Prim.Native.Nat.{ℕ, zero, suc, ◌+◌, ◌*◌, ◌/◌, ◌%◌, ◌^◌, ◌≤◌, ◌<◌}
 use native.Mathlib.Nat.{div-div-eq-div-mul}
-use native.Mathlib.Numerals.{add-one, add-two, add-three}
 use native.Mathlib.Omega.{arith}
-use lib.ListN.{length, get_or, take, drop, set}
-use lib.Seq.{sets-eq}
+use lib.ListN.{length, get_or, take, drop}
 use Rattle.numbers.specs.Numbers.{number4, numbers, bytes4, bytes}
 use Rattle.numbers.proofs.Bounds.{Below}
 
 -- ---- lengths and places
-pub length-numbers : (n : ℕ) (b : List ℕ) → length b ≡ 4 * n → length (numbers b) ≡ n
+pub count-numbers : (b : List ℕ) → length (numbers b) ≡ length b / 4
 unfolding numbers
-length-numbers zero [] h = refl
-length-numbers (suc n) [] h = omega arith
-length-numbers zero (a ∷ []) h = omega arith
-length-numbers (suc n) (a ∷ []) h = omega arith
-length-numbers zero (a ∷ b ∷ []) h = omega arith
-length-numbers (suc n) (a ∷ b ∷ []) h = omega arith
-length-numbers zero (a ∷ b ∷ c ∷ []) h = omega arith
-length-numbers (suc n) (a ∷ b ∷ c ∷ []) h = omega arith
-length-numbers zero (a ∷ b ∷ c ∷ d ∷ r) h = omega arith
-length-numbers (suc n) (a ∷ b ∷ c ∷ d ∷ r) h = ap suc (length-numbers n r (omega arith))
+count-numbers [] = refl
+count-numbers (a ∷ []) = refl
+count-numbers (a ∷ b ∷ []) = refl
+count-numbers (a ∷ b ∷ c ∷ []) = refl
+count-numbers (a ∷ b ∷ c ∷ d ∷ r) = omega (arith, count-numbers r)
+
+pub length-numbers : (n : ℕ) (b : List ℕ) → length b ≡ 4 * n → length (numbers b) ≡ n
+length-numbers n b h = omega (arith, count-numbers b)
 
 -- number i is made of the bytes from 4 * i
 pub number_at : (i : ℕ) (b : List ℕ) → 4 * i + 4 ≤ length b
@@ -139,10 +135,3 @@ bytes_one (x ∷ y ∷ xs) l = absurd (omega arith)
 
 pub bytes4-numbers : (b : List ℕ) → length b ≡ 4 → Below 256 b → bytes4 (get_or (numbers b) 0 0) ≡ b
 bytes4-numbers b l h = bytes_one (numbers b) (length-numbers 1 b l) ∙ bytes-numbers 1 b l h
-
--- ---- stores
--- four stores in a row write a number
-pub stored4 : (i x : ℕ) (b : List ℕ) → 4 * i + 4 ≤ length b
-    → set (set (set (set b (4 * i) (x % 256)) (4 * i + 1) (x / 256 % 256)) (4 * i + 2) (x / 65536 % 256)) (4 * i + 3) (x / 16777216 % 256)
-    ≡ take (4 * i) b ++ bytes4 x ++ drop (4 * i + 4) b
-stored4 i x b h = simp (add-one, add-two, add-three) (sets-eq (bytes4 x) b (4 * i) h)

@@ -5,32 +5,21 @@ ghost use Rattle.std.specs.Prelude.{◌≡◌, ◌++◌, ◌+◌, ◌*◌, ◌�
 ghost use Rattle.numbers.specs.Equality.{among};
 ghost use Rattle.numbers.specs.Numbers.{numbers, bytes4, bytes, all_below, all_different};
 
-// A byte as a number of 32 bits.
-fn wide(x: u8) -> u32
-    ensures { (result ≡ x) × (result < 256) }
-{
-    x as u32
-}
-
 // Number i of the buffer b.
 pub fn get(b: &[u8], i: usize) -> u32
     requires { 4 * i + 4 ≤ length b.now }
     ensures { result ≡ get_or (numbers b.now) i 0 }
 {
     let at = 4 * i;
-    wide(b[at]) + 256 * wide(b[at + 1]) + 65536 * wide(b[at + 2]) + 16777216 * wide(b[at + 3])
+    u32::from_le_bytes([b[at], b[at + 1], b[at + 2], b[at + 3]])
 }
 
 // The four bytes of x, or the lowest four where it has more.
 pub fn bytes_of(x: usize) -> [u8; 4]
     ensures { result ≡ bytes4 x }
 {
-    [
-        (x % 256) as u8,
-        (x / 256 % 256) as u8,
-        (x / 65536 % 256) as u8,
-        (x / 16777216 % 256) as u8,
-    ]
+    let [a, b, c, d, ..] = x.to_le_bytes();
+    [a, b, c, d]
 }
 
 // Writes x as number i of the buffer b.
@@ -39,25 +28,14 @@ pub fn put(b: &mut [u8], i: usize, x: u32)
     ensures { b.new ≡ take (4 * i) b.old ++ bytes4 x ++ drop (4 * i + 4) b.old }
 {
     let at = 4 * i;
-    b[at] = (x % 256) as u8;
-    b[at + 1] = (x / 256 % 256) as u8;
-    b[at + 2] = (x / 65536 % 256) as u8;
-    b[at + 3] = (x / 16777216 % 256) as u8;
+    b[at..at + 4].copy_from_slice(&x.to_le_bytes());
 }
 
-// Whether all n numbers of the buffer b are below m.
-pub fn all_below(b: &[u8], n: usize, m: u32) -> bool
-    requires { length b.now ≡ 4 * n }
+// Whether all numbers of the buffer b are below m.
+pub fn all_below(b: &[u8], m: u32) -> bool
     ensures { result ≡ all_below m (numbers b.now) }
 {
-    let mut i = 0;
-    while i < n {
-        if get(b, i) >= m {
-            return false;
-        }
-        i += 1;
-    }
-    true
+    (0..b.len() / 4).all(|i| get(b, i) < m)
 }
 
 // Whether x is one of the numbers. The loop has one way through it, so that the compiler takes several numbers at a time.
@@ -65,10 +43,8 @@ fn is_among(x: u32, xs: &[u32]) -> bool
     ensures { result ≡ among eqb x xs.now }
 {
     let mut found = false;
-    let mut i = 0;
-    while i < xs.len() {
-        found = found | (x == xs[i]);
-        i += 1;
+    for y in xs {
+        found = found | (x == *y);
     }
     found
 }
@@ -77,11 +53,8 @@ fn is_among(x: u32, xs: &[u32]) -> bool
 pub fn all_different(xs: &[u32]) -> bool
     ensures { result ≡ all_different xs.now }
 {
-    let mut i = 0;
-    while i < xs.len() {
-        let x = xs[i];
-        i += 1;
-        if is_among(x, &xs[i..]) {
+    for (i, x) in xs.iter().enumerate() {
+        if is_among(*x, &xs[i + 1..]) {
             return false;
         }
     }
@@ -93,10 +66,8 @@ pub fn load(b: &[u8], out: &mut [u32])
     requires { length b.now ≡ 4 * length out.old }
     ensures { out.new ≡ numbers b.now }
 {
-    let mut i = 0;
-    while i < out.len() {
-        out[i] = get(b, i);
-        i += 1;
+    for (i, x) in out.iter_mut().enumerate() {
+        *x = get(b, i);
     }
 }
 
@@ -105,9 +76,7 @@ pub fn store(xs: &[u32], b: &mut [u8])
     requires { length b.old ≡ 4 * length xs.now }
     ensures { b.new ≡ bytes xs.now }
 {
-    let mut i = 0;
-    while i < xs.len() {
-        put(b, i, xs[i]);
-        i += 1;
+    for (i, x) in xs.iter().enumerate() {
+        put(b, i, *x);
     }
 }

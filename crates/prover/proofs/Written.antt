@@ -4,7 +4,8 @@ use mathlib.Core.Bool.{true}
 use mathlib.Core.List.{List, ◌∷◌, ◌++◌, map}
 use Prim.Native.Nat.{ℕ, ◌+◌, ◌*◌, ◌≤◌, ◌<◌}
 use native.Mathlib.Omega.{arith}
-use lib.ListN.{length, length-append, length-map}
+use lib.ListN.{length, take, replicate}
+use lib.Seq.{length-take-le}
 use Rattle.algebra.proofs.ListLaws.{length-build}
 use Rattle.field.specs.BabyBear.{baby_bear, F, val, ofℕ}
 use Rattle.field.specs.Numbers.{Below}
@@ -15,67 +16,66 @@ use Rattle.theory.specs.Sizes.{elements_below}
 use Rattle.theory.specs.Fp.{fp, witness_root, elements, element_bytes, item_bytes, read_items, new_witness, new_item}
 use Rattle.theory.proofs.ElementBytes.{length-written, elements-read}
 use Rattle.theory.proofs.FpLaws.{values-below, fp-format, fp-laws}
+use Rattle.r1cs.specs.declared.list.List.{List as Listed}
+use Rattle.fold.specs.declared.basis.Weights.{Weights}
 use Rattle.fold.specs.Weights.{lagrange_at, weighted_from}
 use Rattle.fold.proofs.Reading.{part-inside}
 use Rattle.fold.proofs.Mixing.{length-weights, weighted_from-below, mixed-w}
 
 -- ---- the new witness
 
-module _ (k l at : ℕ) (wits : List ℕ) (sized : length wits ≡ l * (4 * k)) {weights : List ℕ} (w : weights ≡ lagrange_at l at) where
-  -- The numbers that are combined lie in the buffer.
-  pub witness-inside : (s : ℕ) → s ≡ k → (i : ℕ) → i < length weights → 4 * (i * k + 0 + s) ≤ length wits
-  witness-inside s e i h = omega (arith, e, part-inside wits l k sized i (rw (length-weights l at w) at h))
+-- The array's front that it fills, before.
+abbrev pub scratch : Listed → List ℕ
+scratch s = take s.sizes.k (replicate 64 0)
 
-  pub new-witness : {xs : List ℕ} (s : ℕ) → s ≡ k → xs ≡ weighted_from weights wits k 0 s → xs ≡ map val (new_witness k l (ofℕ at) wits)
-  new-witness s e h =
+module _ (s : Listed) (v : Weights) (many : v.l ≡ s.l) {weights : List ℕ} (w : weights ≡ lagrange_at v.l v.at) where
+  weights-are : weights ≡ lagrange_at s.l v.at
+  weights-are = w ∙ ap (λ (l : ℕ). lagrange_at l v.at) many
+
+  weights-many : length weights ≡ s.l
+  weights-many = length-weights s.l v.at weights-are
+
+  scratch-length : length (scratch s) ≡ s.sizes.k
+  scratch-length = length-take-le s.sizes.k (replicate 64 0) s.sizes.k_most
+
+  -- There is a weight, and the numbers that are combined lie in the buffer.
+  pub witness-inside : (0 < length weights) × ((i : ℕ) → i < length weights → 4 * (i * s.sizes.k + 0 + length (scratch s)) ≤ length s.wits.now)
+  witness-inside = (
+    omega (arith, weights-many),
+    λ i h. omega (arith, scratch-length, part-inside s.wits.now s.l s.sizes.k s.wits_length i (rw weights-many at h)),
+  )
+
+  pub new-witness : {xs : List ℕ} → xs ≡ weighted_from weights s.wits.now s.sizes.k 0 (length (scratch s))
+      → xs ≡ map val (new_witness s.sizes.k s.l (ofℕ v.at) s.wits.now)
+  new-witness h =
       h
-      ∙ ap (weighted_from weights wits k 0) e
-      ∙ sym (numbers-of-elements (weighted_from weights wits k 0 k) (weighted_from-below weights wits k 0 k))
-      ∙ ap (map val) (mixed-w l at w k wits sized)
+      ∙ ap (weighted_from weights s.wits.now s.sizes.k 0) scratch-length
+      ∙ sym (numbers-of-elements (weighted_from weights s.wits.now s.sizes.k 0 s.sizes.k) (weighted_from-below weights s.wits.now s.sizes.k 0 s.sizes.k))
+      ∙ ap (map val) (mixed-w s.l v.at weights-are s.sizes.k s.wits.now s.wits_length)
 
-module _ (k l : ℕ) (a : F) (wits : List ℕ) where
+module _ (s : Listed) (a : F) where
   abbrev w : List F
-  w = new_witness k l a wits
+  w = new_witness s.sizes.k s.l a s.wits.now
 
-  pub new-witness-size : length w ≡ k
-  new-witness-size = length-build k _
+  new-witness-size : length w ≡ s.sizes.k
+  new-witness-size = length-build s.sizes.k _
 
-  pub new-witness-length : {xs : List ℕ} → xs ≡ map val w → length xs ≡ k
-  new-witness-length e = ap length e ∙ length-map w val ∙ new-witness-size
+  pub witness-fits : {wit : List ℕ} → wit ≡ element_bytes w → (length wit ≡ 4 * s.sizes.k) × (elements_below wit ≡ true)
+  witness-fits e = (ap length e ∙ length-written fp fp-laws s.sizes.k w new-witness-size, ap elements_below e ∙ fp-format.numbers-below w)
 
-  module _ {wit : List ℕ} (e : wit ≡ element_bytes w) where
-    pub witness-length : length wit ≡ 4 * k
-    witness-length = ap length e ∙ length-written fp fp-laws k w new-witness-size
+  -- ---- the new item
 
-    pub witness-below : elements_below wit ≡ true
-    witness-below = ap elements_below e ∙ fp-format.numbers-below w
-
-    pub witness-read : elements k wit ≡ w
-    witness-read = ap (elements k) e ∙ elements-read fp fp-laws k w new-witness-size
-
--- ---- the new item
-
--- The number of its numbers.
-pub new-numbers-length : (m n : ℕ) (items : List (Item F)) (q : List F) (a : F) {ys : List ℕ} → ys ≡ map val (new_e baby_bear items q a ∷ new_r baby_bear m items a ++ new_x baby_bear n items a)
-    → length ys ≡ 1 + m + n
-new-numbers-length m n items q a e =
-    ap length e ∙ length-map (new_e baby_bear items q a ∷ new_r baby_bear m items a ++ new_x baby_bear n items a) val
-    ∙ omega (arith, length-append (new_r baby_bear m items a) (new_x baby_bear n items a), r-size, x-size)
-  where
-    r-size : length (new_r baby_bear m items a) ≡ m
-    r-size = length-build m _
-
-    x-size : length (new_x baby_bear n items a) ≡ n
-    x-size = length-build n _
+  pub new-item-written : (points : List ℕ) (q : List F) {values wit out : List ℕ} → values ≡ map val q → wit ≡ element_bytes w
+      → out ≡ element_bytes (new_e baby_bear (read_items s.sizes.m s.sizes.n s.l s.items.now) (map ofℕ values) a ∷ new_r baby_bear s.sizes.m (read_items s.sizes.m s.sizes.n s.l s.items.now) a ++ new_x baby_bear s.sizes.n (read_items s.sizes.m s.sizes.n s.l s.items.now) a) ++ witness_root s.sizes.k points (elements s.sizes.k wit)
+      → out ≡ item_bytes (new_item s.sizes.m s.sizes.n s.sizes.k s.l a points s.items.now s.wits.now q)
+  new-item-written points q ev ew eo =
+      eo
+      ∙ ap₂ (λ (c t : List F). element_bytes (new_e baby_bear items c a ∷ new_r baby_bear s.sizes.m items a ++ new_x baby_bear s.sizes.n items a) ++ witness_root s.sizes.k points t)
+      (ap (map ofℕ) ev ∙ elements-of-numbers q) (ap (elements s.sizes.k) ew ∙ elements-read fp fp-laws s.sizes.k w new-witness-size)
+    where
+      items : List (Item F)
+      items = read_items s.sizes.m s.sizes.n s.l s.items.now
 
 -- The quotient's numbers are below p, and stand for the quotient.
 pub quotient-below : (q : List F) {values : List ℕ} → values ≡ map val q → Below values
 quotient-below q e = subst Below (sym e) (values-below q)
-
-pub new-item-written : (m n k l : ℕ) (a : F) (points items wits : List ℕ) (q : List F) {values wit out : List ℕ} → values ≡ map val q → wit ≡ element_bytes (new_witness k l a wits)
-    → out ≡ element_bytes (new_e baby_bear (read_items m n l items) (map ofℕ values) a ∷ new_r baby_bear m (read_items m n l items) a ++ new_x baby_bear n (read_items m n l items) a) ++ witness_root k points (elements k wit)
-    → out ≡ item_bytes (new_item m n k l a points items wits q)
-new-item-written m n k l a points items wits q ev ew eo =
-    eo
-    ∙ ap₂ (λ (c w : List F). element_bytes (new_e baby_bear (read_items m n l items) c a ∷ new_r baby_bear m (read_items m n l items) a ++ new_x baby_bear n (read_items m n l items) a) ++ witness_root k points w)
-    (ap (map ofℕ) ev ∙ elements-of-numbers q) (witness-read k l a wits ew)

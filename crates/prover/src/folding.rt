@@ -1,161 +1,64 @@
 // Folding: the quotient, the new item and the new witness at a challenge. Checks 2, 3, 12, 4, 13, 5, 10 and 11.
-ghost use Rattle.std.specs.Prelude.{◌≡◌, true, ℕ, ◌*◌, ◌≤◌, ◌<◌, length};
+ghost use Rattle.std.specs.Prelude.{◌≡◌, true, ◌*◌, ◌<◌, length};
 ghost use Rattle.field.specs.BabyBear.{p, ofℕ};
-ghost use Rattle.code.specs.Points.{is_witness_count};
 ghost use Rattle.theory.specs.Checks.{answer};
 ghost use Rattle.theory.specs.Combination.{quotient_size};
 ghost use Rattle.theory.specs.Sizes.{points_fit};
-ghost use Rattle.theory.specs.Fp.{element_bytes, item_size, item_bytes, list_quotient, new_witness, new_item, fold_outputs_fit, fold_fits, fold_checks, fold};
+ghost use Rattle.theory.specs.Fp.{element_bytes, item_size, item_bytes, list_fits, list_quotient, new_witness, new_item, fold_outputs_fit, fold_checks, fold};
+ghost use Rattle.checks.specs.Refusals.{answer_of};
 ghost use Rattle.fold.specs.Fits.{Fits};
 
-use crate::{list, new};
+use crate::new;
+use checks::refusal::{Refusal, ensure};
+use field::Inverses;
+use fold::basis::Weights;
+use r1cs::circuit::Circuit;
+use r1cs::list::List;
 
 // The lengths of the output buffers.
-fn outputs_fit(m: usize, n: usize, k: usize, l: usize, q: &[u8], item: &[u8], wit: &[u8]) -> bool
-    requires { (m ≤ 6) × (n ≤ 64) × (k ≤ 64) × (1 ≤ l) × (l ≤ 8) }
-    ensures { result ≡ fold_outputs_fit m n k l q.now item.now wit.now }
+fn outputs_fit(list: &List<'_>, q: &[u8], item: &[u8], wit: &[u8]) -> bool
+    ensures { result ≡ fold_outputs_fit list.now.sizes.m list.now.sizes.n list.now.sizes.k list.now.l q.now item.now wit.now }
 {
-    (q.len() == 4 * list::quotient_size(m, l))
-        & (item.len() == checks::item::size(m, n))
-        & (wit.len() == 4 * k)
+    let sizes = list.sizes;
+    (q.len() == 4 * sizes.quotient_size(list.l))
+        & (item.len() == sizes.item_size())
+        & (wit.len() == 4 * sizes.k)
 }
 
-// Check 2.
-fn fits(
-    m: u32,
-    n: u32,
-    k: u32,
-    l: u32,
-    points: &[u8],
-    a: &[u8],
-    b: &[u8],
-    c: &[u8],
-    items: &[u8],
-    wits: &[u8],
-    q: &[u8],
-    item: &[u8],
-    wit: &[u8],
-) -> bool
-    ensures { (challenge : ℕ) → result ≡ fold_fits m n k l challenge points.now a.now b.now c.now items.now wits.now q.now item.now wit.now }
-{
-    if !checks::list::fits(m, n, k, l, points, a, b, c, items, wits) {
-        return false;
-    }
-    outputs_fit(m as usize, n as usize, k as usize, l as usize, q, item, wit)
-}
-
+// What check 2 asks of the output buffers, and the other checks.
 fn verdict(
-    m: u32,
-    n: u32,
-    k: u32,
-    l: u32,
+    list: &List<'_>,
     challenge: u32,
     points: &[u8],
-    a: &[u8],
-    b: &[u8],
-    c: &[u8],
-    items: &[u8],
-    wits: &[u8],
     q: &[u8],
     item: &[u8],
     wit: &[u8],
-) -> u32
-    ensures { result ≡ answer (fold_checks m n k l challenge points.now a.now b.now c.now items.now wits.now q.now item.now wit.now) }
+) -> Result<(), Refusal>
+    requires { list_fits list.now.sizes.m list.now.sizes.n list.now.sizes.k list.now.l points.now list.now.circuit.a.now list.now.circuit.b.now list.now.circuit.c.now list.now.items.now list.now.wits.now ≡ true }
+    ensures { answer_of result ≡ answer (fold_checks list.now.sizes.m list.now.sizes.n list.now.sizes.k list.now.l challenge points.now list.now.circuit.a.now list.now.circuit.b.now list.now.circuit.c.now list.now.items.now list.now.wits.now q.now item.now wit.now) }
 {
-    if !fits(m, n, k, l, points, a, b, c, items, wits, q, item, wit) {
-        return 2;
-    }
-    let ms = m as usize;
-    let ns = n as usize;
-    let ks = k as usize;
-    let ls = l as usize;
-    let listed = checks::list::verdict(ms, ns, ks, ls, points, a, b, c, items, wits);
-    if listed != 0 {
-        return listed;
-    }
-    if !checks::sizes::challenge_fits(l, challenge) {
-        return 5;
-    }
-    checks::list::claims(ms, ns, ks, ls, points, a, b, c, items, wits)
+    ensure(outputs_fit(list, q, item, wit), Refusal::Sizes)?;
+    checks::list::verdict(list, points)?;
+    let permitted = checks::sizes::challenge_fits(list.l as u32, challenge);
+    ensure(permitted, Refusal::Challenge)?;
+    checks::list::claims(list, points)
 }
 
-// Writes the quotient, the new witness and the new item; values is scratch space for the quotient's numbers, weights for the L_i.
-fn write_in(
-    m: usize,
-    n: usize,
-    k: usize,
-    l: usize,
-    at: u32,
-    points: &[u8],
-    a: &[u8],
-    b: &[u8],
-    c: &[u8],
-    items: &[u8],
-    wits: &[u8],
-    values: &mut [u32],
-    weights: &mut [u32],
-    q: &mut [u8],
-    item: &mut [u8],
-    wit: &mut [u8],
-)
-    requires fits { Fits m n k l a.now b.now c.now items.now wits.now × (is_witness_count k ≡ true) × (at < p) × (points_fit k points.now ≡ true) }
-    requires values_len { (length values.old ≡ quotient_size m l) × (length weights.old ≡ l) }
-    requires q_len { (length q.old ≡ 4 * quotient_size m l) × (length item.old ≡ item_size m n) × (length wit.old ≡ 4 * k) }
-    ensures q_after { q.new ≡ element_bytes (list_quotient m n k l a.now b.now c.now items.now wits.now) }
-    ensures item_after { item.new ≡ item_bytes (new_item m n k l (ofℕ at) points.now items.now wits.now (list_quotient m n k l a.now b.now c.now items.now wits.now)) }
-    ensures wit_after { wit.new ≡ element_bytes (new_witness k l (ofℕ at) wits.now) }
+// Writes the quotient, the new witness and the new item.
+fn write(list: &List<'_>, at: u32, points: &[u8], q: &mut [u8], item: &mut [u8], wit: &mut [u8])
+    requires fits { Fits list.now.sizes.n list.now.sizes.k list.now.circuit.a.now list.now.circuit.b.now list.now.circuit.c.now × (at < p) × (points_fit list.now.sizes.k points.now ≡ true) }
+    requires outputs { (length q.old ≡ 4 * quotient_size list.now.sizes.m list.now.l) × (length item.old ≡ item_size list.now.sizes.m list.now.sizes.n) × (length wit.old ≡ 4 * list.now.sizes.k) }
+    ensures q_after { q.new ≡ element_bytes (list_quotient list.now.sizes.m list.now.sizes.n list.now.sizes.k list.now.l list.now.circuit.a.now list.now.circuit.b.now list.now.circuit.c.now list.now.items.now list.now.wits.now) }
+    ensures item_after { item.new ≡ item_bytes (new_item list.now.sizes.m list.now.sizes.n list.now.sizes.k list.now.l (ofℕ at) points.now list.now.items.now list.now.wits.now (list_quotient list.now.sizes.m list.now.sizes.n list.now.sizes.k list.now.l list.now.circuit.a.now list.now.circuit.b.now list.now.circuit.c.now list.now.items.now list.now.wits.now)) }
+    ensures wit_after { wit.new ≡ element_bytes (new_witness list.now.sizes.k list.now.l (ofℕ at) list.now.wits.now) }
 {
-    crate::quotient::write_in(m, n, k, l, a, b, c, items, wits, values, q);
-    let inverses = field::inverses();
-    fold::basis::lagrange(at, &inverses, weights);
-    new::write_witness(k, l, at, weights, wits, wit);
-    new::write_item(m, n, k, l, at, points, weights, items, values, wit, item);
-}
-
-// Writes the quotient, the new item and the new witness.
-fn write(
-    m: usize,
-    n: usize,
-    k: usize,
-    l: usize,
-    at: u32,
-    points: &[u8],
-    a: &[u8],
-    b: &[u8],
-    c: &[u8],
-    items: &[u8],
-    wits: &[u8],
-    q: &mut [u8],
-    item: &mut [u8],
-    wit: &mut [u8],
-)
-    requires fits { Fits m n k l a.now b.now c.now items.now wits.now × (is_witness_count k ≡ true) × (at < p) × (points_fit k points.now ≡ true) }
-    requires q_len { (length q.old ≡ 4 * quotient_size m l) × (length item.old ≡ item_size m n) × (length wit.old ≡ 4 * k) }
-    ensures q_after { q.new ≡ element_bytes (list_quotient m n k l a.now b.now c.now items.now wits.now) }
-    ensures item_after { item.new ≡ item_bytes (new_item m n k l (ofℕ at) points.now items.now wits.now (list_quotient m n k l a.now b.now c.now items.now wits.now)) }
-    ensures wit_after { wit.new ≡ element_bytes (new_witness k l (ofℕ at) wits.now) }
-{
-    let mut values = [0u32; 49];
-    let mut weights = [0u32; 8];
-    let count = list::quotient_size(m, l);
-    write_in(
-        m,
-        n,
-        k,
-        l,
-        at,
-        points,
-        a,
-        b,
-        c,
-        items,
-        wits,
-        &mut values[..count],
-        &mut weights[..l],
-        q,
-        item,
-        wit,
-    );
+    let mut coefficients = [0u32; 49];
+    let coefficients = &mut coefficients[..list.sizes.quotient_size(list.l)];
+    fold::quotient::quotient(list, coefficients);
+    numbers::store(coefficients, q);
+    let weights = Weights::new(list.l, at, &Inverses::new());
+    new::write_witness(list, &weights, wit);
+    new::write_item(list, &weights, points, coefficients, wit, item);
 }
 
 pub fn fold(
@@ -173,21 +76,15 @@ pub fn fold(
     quotient: &mut [u8],
     item: &mut [u8],
     wit: &mut [u8],
-) -> u32
-    ensures answer { result ≡ (fold m n k l challenge points.now a.now b.now c.now items.now wits.now quotient.old item.old wit.old).answer }
+) -> Result<(), Refusal>
+    ensures answer { answer_of result ≡ (fold m n k l challenge points.now a.now b.now c.now items.now wits.now quotient.old item.old wit.old).answer }
     ensures quotient { quotient.new ≡ (fold m n k l challenge points.now a.now b.now c.now items.now wits.now quotient.old item.old wit.old).quotient }
     ensures item { item.new ≡ (fold m n k l challenge points.now a.now b.now c.now items.now wits.now quotient.old item.old wit.old).item }
     ensures wit { wit.new ≡ (fold m n k l challenge points.now a.now b.now c.now items.now wits.now quotient.old item.old wit.old).wit }
 {
-    let answer = verdict(
-        m, n, k, l, challenge, points, a, b, c, items, wits, quotient, item, wit,
-    );
-    if answer != 0 {
-        return answer;
-    }
-    write(
-        m as usize, n as usize, k as usize, l as usize, challenge, points, a, b, c, items, wits,
-        quotient, item, wit,
-    );
-    0
+    let circuit = Circuit { a, b, c };
+    let list = checks::list::new(m, n, k, l, points, &circuit, items, wits).ok_or(Refusal::Sizes)?;
+    verdict(&list, challenge, points, quotient, item, wit)?;
+    write(&list, challenge, points, quotient, item, wit);
+    Ok(())
 }

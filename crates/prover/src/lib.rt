@@ -2,6 +2,5 @@
 #![tactic(auto)]
 
 pub mod folding;
-mod list;
 mod new;
 pub mod quotient;

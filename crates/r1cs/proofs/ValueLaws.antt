@@ -6,14 +6,14 @@ use Prim.Native.Nat.{ℕ, ◌+◌, ◌*◌, ◌^◌, ◌%◌, ◌≤◌, ◌<◌
 use native.Mathlib.Nat.{mod-eq_of_lt, one-mul}
 use native.Mathlib.Numerals.{add-one}
 use native.Mathlib.Omega.{arith}
-use lib.ListN.{length, get_or, length-map}
+use lib.ListN.{get_or}
 use lib.Pow.{pow_mono}
 use Rattle.algebra.specs.Sums.{sum_to}
 use Rattle.algebra.proofs.ListLaws.{get_or-build}
 use Rattle.field.specs.BabyBear.{p, R, F, val, ofℕ, ◌⊕◌, ◌⊖◌, ◌⊗◌}
 use Rattle.field.proofs.Laws.{val-zero, below-p}
 use Rattle.field.proofs.Chains.{sum_of, difference-of, product-of}
-use Rattle.theory.specs.R1cs.{row_sum, residual, weight, weighted_sum}
+use Rattle.theory.specs.R1cs.{row_sum, residual, weight}
 use Rattle.theory.specs.Fp.{matrix, circuit}
 use Rattle.r1cs.specs.Rows.{row_sums}
 
@@ -49,9 +49,6 @@ module _ (a b c r z : List ℕ) where
   valued-none = sym val-zero
 
   module _ (j : ℕ) {sum : ℕ} (v : Valued j sum) where
-    pub valued-all : j ≡ 2 ^ length r → sum ≡ val (weighted_sum R (circuit a b c) (map ofℕ r) (map ofℕ z))
-    valued-all e = v ∙ ap (λ (n : ℕ). val (sum_to R n part)) (e ∙ ap (λ (n : ℕ). 2 ^ n) (sym (length-map r ofℕ)))
-
     pub valued-more : {az bz cz : List ℕ} {product difference w term next : ℕ} → az ≡ row_sums a z → bz ≡ row_sums b z → cz ≡ row_sums c z → j < 64
         → product ≡ val (ofℕ (get_or az j 0) ⊗ ofℕ (get_or bz j 0)) → difference ≡ val (ofℕ product ⊖ ofℕ (get_or cz j 0))
         → w ≡ val (weight R (map ofℕ r) j) → term ≡ val (ofℕ w ⊗ ofℕ difference) → next ≡ val (ofℕ sum ⊕ ofℕ term) → Valued (j + 1) next

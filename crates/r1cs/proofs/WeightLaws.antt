@@ -5,13 +5,13 @@ use mathlib.Core.List.{List, map}
 use Prim.Native.Nat.{ℕ, zero, suc, ◌+◌, ◌/◌, ◌%◌, ◌^◌, ◌<◌}
 use native.Mathlib.Nat.{pow-zero, pow-suc, div-div-eq-div-mul, div-one}
 use native.Mathlib.Numerals.{add-one}
-use lib.ListN.{length, get_or, length-map}
+use lib.ListN.{length, get_or}
 use Rattle.algebra.specs.Sums.{prod_to}
 use Rattle.algebra.proofs.ListLaws.{get_or-map}
 use Rattle.field.specs.BabyBear.{p, R, F, val, ofℕ, 𝟘, ◌⊖◌, ◌⊗◌}
 use Rattle.field.proofs.Laws.{val-one, val-small, ofℕ-one}
 use Rattle.field.proofs.Chains.{product-of}
-use Rattle.theory.specs.R1cs.{bit, bit_weight, weight}
+use Rattle.theory.specs.R1cs.{bit, bit_weight}
 
 -- The product over the bits below b.
 abbrev pub weight_so_far : List ℕ → ℕ → ℕ → F
@@ -35,9 +35,6 @@ module _ {r : List ℕ} {j b rest product : ℕ} (w : Weighed r j b rest product
         weighed = product-of (weight_so_far r j b) (bit_weight R (rest % 2) (ofℕ (get_or r b 0))) w.weighed ef en
             ∙ ap₂ (λ (n : ℕ) (x : F). val (weight_so_far r j b ⊗ bit_weight R (n % 2) x)) w.left (sym (get_or-map ofℕ r b 0 𝟘 h));
       })
-
-  pub weighed-all : b ≡ length r → product ≡ val (weight R (map ofℕ r) j)
-  weighed-all e = w.weighed ∙ ap (λ (n : ℕ). val (weight_so_far r j n)) (e ∙ sym (length-map r ofℕ))
 
 -- ---- one bit
 

@@ -5,6 +5,7 @@ use mathlib.Core.List.{List, [], ◌∷◌, ◌++◌, map, append-nil}
 use Prim.Native.Nat.{ℕ}
 use borrow.Author.Tests.{eq-eqb}
 use lib.ListN.{length}
+use Rattle.std.specs.Prelude.{Option, Some}
 use Rattle.numbers.specs.Numbers.{bytes}
 use Rattle.numbers.proofs.Tests.{◌&◌}
 use Rattle.theory.specs.R1cs.{Entry}
@@ -44,16 +45,16 @@ document_lines d =
 -- ---- their order
 
 -- Any entries of one matrix, before lines that are in order with and without them.
-ordered-entries : (v w : Keyword) (es : List (Entry ℕ)) (rest : List Line) → follows v w ≡ true → follows w w ≡ true
-    → ordered_after v rest ≡ true → ordered_after w rest ≡ true → ordered_after v (map (entry_line w) es ++ rest) ≡ true
+ordered-entries : (v : Option Keyword) (w : Keyword) (es : List (Entry ℕ)) (rest : List Line) → follows v (Some w) ≡ true → follows (Some w) (Some w) ≡ true
+    → ordered_after v rest ≡ true → ordered_after (Some w) rest ≡ true → ordered_after v (map (entry_line w) es ++ rest) ≡ true
 unfolding ordered_after
 ordered-entries v w [] rest h g none some = none
-ordered-entries v w (e ∷ es) rest h g none some = h & ordered-entries w w es rest g g some some
+ordered-entries v w (e ∷ es) rest h g none some = h & ordered-entries (Some w) w es rest g g some some
 
-ordered-pairs : (v : Keyword) (qs : List Pair) (e : List ℕ) → follows v Item ≡ true → follows v End ≡ true → ordered_after v (pair_lines qs ++ (said End e ∷ [])) ≡ true
+ordered-pairs : (v : Option Keyword) (qs : List Pair) (e : List ℕ) → follows v (Some Item) ≡ true → follows v (Some End) ≡ true → ordered_after v (pair_lines qs ++ (said End e ∷ [])) ≡ true
 unfolding ordered_after pair_lines
 ordered-pairs v [] e h g = g & refl
-ordered-pairs v (q ∷ qs) e h g = h & ordered-pairs Wit qs e refl refl
+ordered-pairs v (q ∷ qs) e h g = h & ordered-pairs (Some Wit) qs e refl refl
 
 module _ (d : Document) where
   -- The lines from the pairs on, from the entries of C on, and from those of B on.
@@ -66,27 +67,27 @@ module _ (d : Document) where
   abbrev from_b : List Line
   from_b = map (entry_line EntryB) d.b ++ from_c
 
-  from-pairs : (v : Keyword) → follows v Item ≡ true → follows v End ≡ true → ordered_after v from_pairs ≡ true
+  from-pairs : (v : Option Keyword) → follows v (Some Item) ≡ true → follows v (Some End) ≡ true → ordered_after v from_pairs ≡ true
   from-pairs v = ordered-pairs v d.pairs (length d.pairs ∷ [])
 
-  from-c : (v : Keyword) → follows v EntryC ≡ true → follows v Item ≡ true → follows v End ≡ true → ordered_after v from_c ≡ true
-  from-c v h g f = ordered-entries v EntryC d.c from_pairs h refl (from-pairs v g f) (from-pairs EntryC refl refl)
+  from-c : (v : Option Keyword) → follows v (Some EntryC) ≡ true → follows v (Some Item) ≡ true → follows v (Some End) ≡ true → ordered_after v from_c ≡ true
+  from-c v h g f = ordered-entries v EntryC d.c from_pairs h refl (from-pairs v g f) (from-pairs (Some EntryC) refl refl)
 
-  from-b : (v : Keyword) → follows v EntryB ≡ true → follows v EntryC ≡ true → follows v Item ≡ true → follows v End ≡ true → ordered_after v from_b ≡ true
-  from-b v l h g f = ordered-entries v EntryB d.b from_c l refl (from-c v h g f) (from-c EntryB refl refl refl)
+  from-b : (v : Option Keyword) → follows v (Some EntryB) ≡ true → follows v (Some EntryC) ≡ true → follows v (Some Item) ≡ true → follows v (Some End) ≡ true → ordered_after v from_b ≡ true
+  from-b v l h g f = ordered-entries v EntryB d.b from_c l refl (from-c v h g f) (from-c (Some EntryB) refl refl refl)
 
   pub document-ordered : ordered (document_lines d) ≡ true
   unfolding ordered_after
-  document-ordered = ordered-entries Size EntryA d.a from_b refl refl (from-b Size refl refl refl refl) (from-b EntryA refl refl refl refl)
+  document-ordered = ordered-entries (Some Size) EntryA d.a from_b refl refl (from-b (Some Size) refl refl refl refl) (from-b (Some EntryA) refl refl refl refl)
 
 -- ---- the lines with a keyword
 
 having-own : (w : Keyword) (es : List (Entry ℕ)) → having w (map (entry_line w) es) ≡ map (entry_line w) es
 unfolding having
 having-own w [] = refl
-having-own w (e ∷ es) = rw (eq-eqb (number w) (number w) refl, having-own w es)
+having-own w (e ∷ es) = rw (eq-eqb (number (Some w)) (number (Some w)) refl, having-own w es)
 
-having-other : (w v : Keyword) (es : List (Entry ℕ)) → same_keyword w v ≡ false → having w (map (entry_line v) es) ≡ []
+having-other : (w v : Keyword) (es : List (Entry ℕ)) → same_keyword (Some w) (Some v) ≡ false → having w (map (entry_line v) es) ≡ []
 unfolding having
 having-other w v [] h = refl
 having-other w v (e ∷ es) h = rw h (having-other w v es h)
@@ -101,7 +102,7 @@ unfolding having pair_lines
 having-wit [] = refl
 having-wit (q ∷ qs) = ap (λ (t : List Line). wit_line_of q ∷ t) (having-wit qs)
 
-having-no-pair : (w : Keyword) (qs : List Pair) → same_keyword w Item ≡ false → same_keyword w Wit ≡ false → having w (pair_lines qs) ≡ []
+having-no-pair : (w : Keyword) (qs : List Pair) → same_keyword (Some w) (Some Item) ≡ false → same_keyword (Some w) (Some Wit) ≡ false → having w (pair_lines qs) ≡ []
 unfolding having pair_lines
 having-no-pair w [] h g = refl
 having-no-pair w (q ∷ qs) h g = rw (h, g) (having-no-pair w qs h g)

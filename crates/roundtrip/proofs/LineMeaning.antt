@@ -7,6 +7,7 @@ use native.Mathlib.Omega.{arith}
 use borrow.Author.Tests.{le-leb, eq-eqb, eqb-true}
 use lib.Dec.{eqb}
 use lib.ListN.{length, length-map}
+use Rattle.std.specs.Prelude.{Some}
 use Rattle.algebra.specs.Lists.{All}
 use Rattle.algebra.proofs.ListLaws.{All-append}
 use Rattle.numbers.specs.Equality.{same_bytes}
@@ -34,32 +35,32 @@ same_next x y xs ys =
 same_end : same_bytes [] [] ≡ true
 same_end = same_bytes_lem refl
 
-pub keyword-size : keyword_of size_word ≡ Size
+pub keyword-size : keyword_of size_word ≡ Some Size
 keyword-size = simp (same_next, same_end)
 
-pub keyword-a : keyword_of a_word ≡ EntryA
+pub keyword-a : keyword_of a_word ≡ Some EntryA
 keyword-a = simp (same_next, same_end)
 
-pub keyword-b : keyword_of b_word ≡ EntryB
+pub keyword-b : keyword_of b_word ≡ Some EntryB
 keyword-b = simp (same_next, same_end)
 
-pub keyword-c : keyword_of c_word ≡ EntryC
+pub keyword-c : keyword_of c_word ≡ Some EntryC
 keyword-c = simp (same_next, same_end)
 
-keyword-item : keyword_of item_word ≡ Item
+keyword-item : keyword_of item_word ≡ Some Item
 keyword-item = simp (same_next, same_end)
 
-pub keyword-wit : keyword_of wit_word ≡ Wit
+pub keyword-wit : keyword_of wit_word ≡ Some Wit
 keyword-wit = simp (same_next, same_end)
 
-pub keyword-end : keyword_of end_word ≡ End
+pub keyword-end : keyword_of end_word ≡ Some End
 keyword-end = simp (same_next, same_end)
 
 -- ---- what a line says
 
 -- A line of numbers.
 abbrev pub said : Keyword → List ℕ → Line
-said w xs = record { keyword = w; numbers = xs; root = [] }
+said w xs = record { keyword = Some w; numbers = xs; root = [] }
 
 numbers-written : (xs : List ℕ) → Numbers32 xs → all_pass is_number (number_fields xs) ≡ true
 unfolding all_pass
@@ -89,14 +90,14 @@ last_written (e ∷ f ∷ fs) g = last_written (f ∷ fs) g
 numbers-said : (w : Keyword) (xs : List ℕ) → Numbers32 xs → count_fits w (length xs) ≡ true → numbers_line w (number_fields xs) ≡ said w xs
 numbers-said w xs h g = rw (numbers-written xs h, length-map xs write_number, g, decimals-written xs h)
 
-pub line-said : (w : Keyword) (word xs : List ℕ) → Plain word → keyword_of word ≡ w → ((fs : List (List ℕ)) → line_with w fs ≡ numbers_line w fs)
+pub line-said : (w : Keyword) (word xs : List ℕ) → Plain word → keyword_of word ≡ Some w → ((fs : List (List ℕ)) → line_with (Some w) fs ≡ numbers_line w fs)
     → Numbers32 xs → count_fits w (length xs) ≡ true → line_of (line_text word (number_fields xs)) ≡ said w xs
 unfolding line_of
 line-said w word xs p e n h g = rw (fields-written word (number_fields xs) p (plain-numbers xs h), e, n (number_fields xs)) (numbers-said w xs h g)
 
 -- An item's line.
 abbrev pub item_said : List ℕ → List ℕ → Line
-item_said xs r = record { keyword = Item; numbers = xs; root = r }
+item_said xs r = record { keyword = Some Item; numbers = xs; root = r }
 
 abbrev pub item_fields : List ℕ → List ℕ → List (List ℕ)
 item_fields xs r = number_fields xs ++ (write_hex r ∷ [])

@@ -6,6 +6,7 @@ use Prim.Native.Nat.{ℕ}
 use native.Mathlib.Omega.{arith}
 use borrow.Author.Tests.{le-leb}
 use lib.ListN.{length}
+use Rattle.std.specs.Prelude.{Some}
 use Rattle.algebra.specs.Lists.{All}
 use Rattle.algebra.proofs.ListLaws.{All-append}
 use Rattle.theory.specs.R1cs.{Entry}
@@ -92,8 +93,8 @@ module _ (d : Document) where
 -- ---- what they say
 
 -- Lines of entries: the keyword, and three numbers.
-module _ (w : Keyword) (word : List ℕ) (plain : Plain word) (keyword : keyword_of word ≡ w)
-    (numbers : (fs : List (List ℕ)) → line_with w fs ≡ numbers_line w fs) (three : count_fits w 3 ≡ true) where
+module _ (w : Keyword) (word : List ℕ) (plain : Plain word) (keyword : keyword_of word ≡ Some w)
+    (numbers : (fs : List (List ℕ)) → line_with (Some w) fs ≡ numbers_line w fs) (three : count_fits w 3 ≡ true) where
   entries-said : (es : List (Entry ℕ)) → WritableEntries es → map line_of (entry_texts word es) ≡ map (entry_line w) es
   unfolding entry_texts
   entries-said [] h = refl

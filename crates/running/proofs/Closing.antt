@@ -1,34 +1,26 @@
 -- A running hash is closed: its last blocks are those of the padded message.
-use mathlib.Core.Path.{◌≡◌, refl, sym, ap, ◌∙◌, subst}
+use mathlib.Core.Path.{◌≡◌, sym, ap, ◌∙◌}
 use mathlib.Core.List.{List, ◌++◌}
-use Prim.Native.Nat.{ℕ, ◌+◌, ◌-◌, ◌/◌, ◌%◌}
+use Prim.Native.Nat.{ℕ, ◌+◌, ◌-◌, ◌*◌, ◌/◌, ◌%◌}
 use lib.ListN.{length, take, drop, replicate}
-use Rattle.hash.specs.Sha256.{padding, hash, bytes, digest}
-use Rattle.hash.proofs.Pad.{rest_of, rest-is, last-is}
+use Rattle.hash.specs.Sha256.{H₀, padding, hash, bytes, digest}
+use Rattle.hash.proofs.Pad.{front_of, rest-is, last-is}
 use Rattle.hash.proofs.Blocks.{all_blocks}
+use Rattle.running.specs.declared.Running.{Running}
 use Rattle.running.specs.Fed.{Fed}
 
--- The bytes since, at the front of 128 zeros.
-abbrev pub unfinished : List ℕ → ℕ → List ℕ
-unfinished rest len = take (len % 64) rest ++ drop (0 + length (take (len % 64) rest)) (replicate 128 0)
+-- the bytes of the last blocks of a message of n bytes
+abbrev pub last-size : ℕ → ℕ
+last-size n = 64 * ((n % 64 + 8) / 64 + 1)
 
-module _ (value rest m b last all r : List ℕ) where
-  -- where the length is the message's
-  closed : Fed value rest (length m) m → b ≡ unfinished rest (length m)
-      → last ≡ take (length m % 64) b ++ padding (length m) ++ replicate (128 - length m % 64 - length (padding (length m))) 0
-      → all ≡ hash value last ((length m % 64 + 8) / 64 + 1) → r ≡ bytes all 8 → r ≡ digest m
-  closed fed e-b e-last e-all e-r =
-      all_blocks m value last _ all r _ fed.blocks (last-is m b front _ last e-last) refl e-all e-r
-    where
-      -- the bytes since are those past the whole blocks
-      past : take (length m % 64) rest ≡ rest_of m
-      past = fed.since ∙ sym (rest-is m)
-
-      front : b ≡ rest_of m ++ drop (0 + length (rest_of m)) (replicate 128 0)
-      front = e-b ∙ ap (λ (x : List ℕ). x ++ drop (0 + length x) (replicate 128 0)) past
-
-  pub closes : (len : ℕ) → b ≡ unfinished rest len → last ≡ take (len % 64) b ++ padding len ++ replicate (128 - len % 64 - length (padding len)) 0
-      → all ≡ hash value last ((len % 64 + 8) / 64 + 1) → r ≡ bytes all 8 → Fed value rest len m → r ≡ digest m
-  closes len e-b e-last e-all e-r fed =
-      subst (λ (n : ℕ). Fed value rest n m → b ≡ unfinished rest n → last ≡ take (n % 64) b ++ padding n ++ replicate (128 - n % 64 - length (padding n)) 0
-      → all ≡ hash value last ((n % 64 + 8) / 64 + 1) → r ≡ bytes all 8 → r ≡ digest m) (sym fed.size) closed fed e-b e-last e-all e-r
+-- b are the bytes since
+pub closes : (r : Running) (m b last all d : List ℕ) → b ≡ take (r.len % 64) r.rest
+    → last ≡ take (r.len % 64) (front_of b (r.len % 64)) ++ padding r.len ++ replicate (128 - r.len % 64 - length (padding r.len)) 0
+    → all ≡ hash r.value (take (last-size r.len) last) (length (take (last-size r.len) last) / 64) → d ≡ bytes all 8 → Fed r m → d ≡ digest m
+closes r m b last all d e-b e-last e-all e-d fed =
+    let n = fed.size in
+    all_blocks m r.value last (replicate (128 - r.len % 64 - length (padding r.len)) 0) all d (last-size r.len)
+    (fed.blocks ∙ ap (λ (i : ℕ). hash H₀ m (i / 64)) n)
+    (last-is m b (e-b ∙ fed.since ∙ ap (λ (i : ℕ). drop (64 * (i / 64)) m) n ∙ sym (rest-is m)) _ last
+    (e-last ∙ ap (λ (i : ℕ). take (i % 64) (front_of b (i % 64)) ++ padding i ++ replicate (128 - r.len % 64 - length (padding r.len)) 0) n))
+    (ap last-size n) e-all e-d

@@ -4,15 +4,16 @@
 -- no message. Of such a state feeding promises the length alone (`longer`), and closing it gives thirty-two bytes of which nothing is said.
 use Rattle.std.specs.Prelude.{◌≡◌, List, ◌++◌, ℕ, ◌+◌, ◌*◌, ◌/◌, ◌%◌, length, take, drop}
 use Rattle.hash.specs.Sha256.{H₀, hash}
+use Rattle.running.specs.declared.Running.{Running}
 
--- The state after the bytes of m: the hash value after m's whole blocks, the bytes of m behind these at the front of `rest`, and the length of m.
+-- The state r after the bytes of m: the hash value after m's whole blocks, the bytes of m behind these at the front of `rest`, and the length of m.
 -- What `rest` holds behind them is left free: no method reads it before writing it.
-pub record Fed (value rest : List ℕ) (len : ℕ) (m : List ℕ) : Type 0 where
-  pub blocks : value ≡ hash H₀ m (len / 64)
-  pub since : take (len % 64) rest ≡ drop (64 * (len / 64)) m
-  pub size : len ≡ length m
+pub record Fed (r : Running) (m : List ℕ) : Type 0 where
+  pub blocks : r.value ≡ hash H₀ m (r.len / 64)
+  pub since : take (r.len % 64) r.rest ≡ drop (64 * (r.len / 64)) m
+  pub size : r.len ≡ length m
 
 -- The bytes s are fed into a state: whatever was fed in before, s now follows it.
-pub record Feeds (s value rest : List ℕ) (len : ℕ) (value' rest' : List ℕ) (len' : ℕ) : Type 0 where
-  pub longer : len' ≡ len + length s
-  pub follows : (m : List ℕ) → Fed value rest len m → Fed value' rest' len' (m ++ s)
+pub record Feeds (s : List ℕ) (before after : Running) : Type 0 where
+  pub longer : after.len ≡ before.len + length s
+  pub follows : (m : List ℕ) → Fed before m → Fed after (m ++ s)

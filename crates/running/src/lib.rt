@@ -1,8 +1,7 @@
 // A running hash: SHA-256 (FIPS 180-4) of a message that is fed in field by field, and closed by a digest.
 #![tactic(auto)]
 
-ghost use Rattle.std.specs.Prelude.{◌≡◌, List, [], ◌∷◌, ℕ, ◌+◌, ◌^◌, ◌<◌, length};
-ghost use Rattle.numbers.specs.Numbers.{bytes4};
+ghost use Rattle.std.specs.Prelude.{◌≡◌, List, [], ℕ, ◌+◌, ◌^◌, ◌<◌, length};
 ghost use Rattle.hash.specs.Sha256.{digest};
 ghost use Rattle.running.specs.Fed.{Fed, Feeds};
 
@@ -20,87 +19,53 @@ pub struct Running {
 impl Running {
     // Nothing is fed in yet.
     pub fn new() -> Self
-        ensures { Fed result.value result.rest result.len [] }
+        ensures { Fed result [] }
     {
-        let value = hash::H0;
-        let rest = [0u8; 64];
         Self {
-            value,
-            rest,
+            value: hash::H0,
+            rest: [0u8; 64],
             len: 0,
         }
     }
 
-    // Feeds in a part of a slice. Where it fills the unfinished block, that one is compressed, and so are the whole blocks behind it.
-    pub fn feed_slice(mut self, s: &[u8]) -> Self
+    // Feeds in the bytes of a slice. Where they fill the unfinished block, that one is compressed, and so are the whole blocks behind it.
+    pub fn feed(mut self, s: &[u8]) -> Self
         requires { self.len + length s.now < 2 ^ 61 }
-        ensures { Feeds s.now self.value self.rest self.len result.value result.rest result.len }
+        ensures { Feeds s.now self result }
     {
-        let len = self.len;
-        let at = len % 64;
+        let at = self.len % 64;
         let room = 64 - at;
-        let count = s.len();
-        let mut rest = self.rest;
-        self.len = len + count;
-        if count < room {
-            message::copy(&mut rest, at, s);
-            self.rest = rest;
+        self.len += s.len();
+        if s.len() < room {
+            self.rest[at..at + s.len()].copy_from_slice(s);
             return self;
         }
-        message::copy(&mut rest, at, &s[..room]);
+        self.rest[at..].copy_from_slice(&s[..room]);
         let value = self.value;
-        let filled = compress::blocks(State { value, blocks: 0 }, &rest, 1);
-        let whole = (count - room) / 64;
-        let all = compress::blocks(filled, &s[room..], whole);
-        let left = room + 64 * whole;
-        message::copy(&mut rest, 0, &s[left..]);
-        let next = all.value;
-        self.value = next;
-        self.rest = rest;
-        self
-    }
-
-    pub fn feed_byte(mut self, b: u8) -> Self
-        requires { self.len + 1 < 2 ^ 61 }
-        ensures { Feeds (b ∷ []) self.value self.rest self.len result.value result.rest result.len }
-    {
-        let one = [b];
-        self = self.feed_slice(&one);
-        self
-    }
-
-    // Feeds in a number in four bytes, lowest first.
-    pub fn feed_number(mut self, x: u32) -> Self
-        requires { self.len + 4 < 2 ^ 61 }
-        ensures { Feeds (bytes4 x) self.value self.rest self.len result.value result.rest result.len }
-    {
-        let four = numbers::bytes_of(x as usize);
-        self = self.feed_slice(&four);
-        self
-    }
-
-    pub fn feed_digest(mut self, d: [u8; 32]) -> Self
-        requires { self.len + 32 < 2 ^ 61 }
-        ensures { Feeds d self.value self.rest self.len result.value result.rest result.len }
-    {
-        self = self.feed_slice(&d);
+        let start = State { value, blocks: 0 };
+        let filled = compress::blocks(start, &self.rest);
+        let behind = &s[room..];
+        let State { value, .. } = compress::blocks(filled, behind);
+        self.value = value;
+        let left = &behind[64 * (behind.len() / 64)..];
+        self.rest[0..left.len()].copy_from_slice(left);
         self
     }
 
     // The digest of all that was fed in, one after the other: the last blocks hold the bytes since and the padding.
     pub fn digest(self) -> [u8; 32]
         requires { self.len < 2 ^ 61 }
-        ensures { (m : List ℕ) → Fed self.value self.rest self.len m → result ≡ digest m }
+        ensures { (m : List ℕ) → Fed self m → result ≡ digest m }
     {
-        let len = self.len;
-        let at = len % 64;
-        let value = self.value;
-        let rest = self.rest;
+        let at = self.len % 64;
         let mut last = [0u8; 128];
-        message::copy(&mut last, 0, &rest[..at]);
-        message::close(&mut last, at, len);
-        let all = compress::blocks(State { value, blocks: 0 }, &last, (at + 8) / 64 + 1);
-        let closed = all.value;
-        message::bytes(closed)
+        last[..at].copy_from_slice(&self.rest[..at]);
+        message::close(&mut last, at, self.len);
+        let start = State {
+            value: self.value,
+            blocks: 0,
+        };
+        let all = compress::blocks(start, &last[..64 * ((at + 8) / 64 + 1)]);
+        message::bytes(all.value)
     }
 }

@@ -3,9 +3,10 @@ use mathlib.Core.Path.{◌≡◌, refl, sym, ap, ◌∙◌}
 use mathlib.Core.Bool.{Bool, true, false, false≢true}
 use mathlib.Core.List.{List, [], ◌∷◌, ◌++◌, map, append-nil}
 use Prim.Native.Nat.{ℕ}
+use Rattle.std.specs.Prelude.{Option, Some, None}
 use Rattle.numbers.proofs.Tests.{and_left, and_right}
 use Rattle.lines.specs.declared.keyword.Keyword.{Keyword}
-use Rattle.lines.specs.declared.keyword.Keyword.TheVariants.{Size, EntryA, EntryB, EntryC, Item, Wit, End, None}
+use Rattle.lines.specs.declared.keyword.Keyword.TheVariants.{Size, EntryA, EntryB, EntryC, Item, Wit, End}
 use Rattle.scan.specs.declared.state.State.{State}
 use Rattle.lines.specs.Lines.{Line, line_of}
 use Rattle.scan.specs.Sheet.{same_keyword, one_of, follows, ordered_after, ordered, sheet_lines, having}
@@ -16,34 +17,34 @@ use Rattle.scan.proofs.ReadLines.{ReadLines}
 
 -- ---- behind an item
 
-abbrev pub behind_items : Keyword → Bool
+abbrev pub behind_items : Option Keyword → Bool
 behind_items v = one_of (Item ∷ Wit ∷ End ∷ []) v
 
-stays-behind : (v w : Keyword) → behind_items v ≡ true → follows v w ≡ true → behind_items w ≡ true
-stays-behind Size w p f = absurd (false≢true p)
-stays-behind EntryA w p f = absurd (false≢true p)
-stays-behind EntryB w p f = absurd (false≢true p)
-stays-behind EntryC w p f = absurd (false≢true p)
+stays-behind : (v w : Option Keyword) → behind_items v ≡ true → follows v w ≡ true → behind_items w ≡ true
+stays-behind (Some Size) w p f = absurd (false≢true p)
+stays-behind (Some EntryA) w p f = absurd (false≢true p)
+stays-behind (Some EntryB) w p f = absurd (false≢true p)
+stays-behind (Some EntryC) w p f = absurd (false≢true p)
 stays-behind None w p f = absurd (false≢true p)
-stays-behind End w p f = absurd (false≢true f)
-stays-behind Item Size p f = absurd (false≢true f)
-stays-behind Item EntryA p f = absurd (false≢true f)
-stays-behind Item EntryB p f = absurd (false≢true f)
-stays-behind Item EntryC p f = absurd (false≢true f)
-stays-behind Item Item p f = refl
-stays-behind Item Wit p f = refl
-stays-behind Item End p f = refl
-stays-behind Item None p f = absurd (false≢true f)
-stays-behind Wit Size p f = absurd (false≢true f)
-stays-behind Wit EntryA p f = absurd (false≢true f)
-stays-behind Wit EntryB p f = absurd (false≢true f)
-stays-behind Wit EntryC p f = absurd (false≢true f)
-stays-behind Wit Item p f = refl
-stays-behind Wit Wit p f = refl
-stays-behind Wit End p f = refl
-stays-behind Wit None p f = absurd (false≢true f)
+stays-behind (Some End) w p f = absurd (false≢true f)
+stays-behind (Some Item) (Some Size) p f = absurd (false≢true f)
+stays-behind (Some Item) (Some EntryA) p f = absurd (false≢true f)
+stays-behind (Some Item) (Some EntryB) p f = absurd (false≢true f)
+stays-behind (Some Item) (Some EntryC) p f = absurd (false≢true f)
+stays-behind (Some Item) (Some Item) p f = refl
+stays-behind (Some Item) (Some Wit) p f = refl
+stays-behind (Some Item) (Some End) p f = refl
+stays-behind (Some Item) None p f = absurd (false≢true f)
+stays-behind (Some Wit) (Some Size) p f = absurd (false≢true f)
+stays-behind (Some Wit) (Some EntryA) p f = absurd (false≢true f)
+stays-behind (Some Wit) (Some EntryB) p f = absurd (false≢true f)
+stays-behind (Some Wit) (Some EntryC) p f = absurd (false≢true f)
+stays-behind (Some Wit) (Some Item) p f = refl
+stays-behind (Some Wit) (Some Wit) p f = refl
+stays-behind (Some Wit) (Some End) p f = refl
+stays-behind (Some Wit) None p f = absurd (false≢true f)
 
-none-behind : (u : Keyword) → behind_items u ≡ false → (v : Keyword) → behind_items v ≡ true → (ls : List Line) → ordered_after v ls ≡ true → having u ls ≡ []
+none-behind : (u : Keyword) → behind_items (Some u) ≡ false → (v : Option Keyword) → behind_items v ≡ true → (ls : List Line) → ordered_after v ls ≡ true → having u ls ≡ []
 unfolding ordered_after having
 none-behind u n v p [] o = refl
 none-behind u n v p (l ∷ ls) o =
@@ -52,11 +53,11 @@ none-behind u n v p (l ∷ ls) o =
     stays : behind_items l.keyword ≡ true
     stays = stays-behind v l.keyword p (and_left (follows v l.keyword) _ o)
 
-    other : same_keyword u l.keyword ≡ false
-    other = go (same_keyword u l.keyword) refl
+    other : same_keyword (Some u) l.keyword ≡ false
+    other = go (same_keyword (Some u) l.keyword) refl
       where
-        go : (t : Bool) → same_keyword u l.keyword ≡ t → t ≡ false
-        go true e = absurd (false≢true (sym n ∙ ap behind_items (same-keyword u l.keyword e) ∙ stays))
+        go : (t : Bool) → same_keyword (Some u) l.keyword ≡ t → t ≡ false
+        go true e = absurd (false≢true (sym n ∙ ap behind_items (same-keyword (Some u) l.keyword e) ∙ stays))
         go false e = refl
 
 -- ---- the lines with a keyword
@@ -69,7 +70,7 @@ module _ {s : List ℕ} {w : Keyword} {held₀ held : List ℕ} {texts : List (L
   goes_on : ordered_after (last_keyword ls) (map line_of texts) ≡ true
   goes_on = sym (prefix-order ls read.in-order (map line_of texts)) ∙ ap ordered (sym read.split) ∙ o
 
-  pub all-before : same_keyword st.last Item ≡ true → (u : Keyword) → behind_items u ≡ false → having u (sheet_lines s) ≡ having u ls
+  pub all-before : same_keyword st.last (Some Item) ≡ true → (u : Keyword) → behind_items (Some u) ≡ false → having u (sheet_lines s) ≡ having u ls
   all-before h u n =
-      let at_item : behind_items (last_keyword ls) ≡ true = ap behind_items (sym (ap (λ x. x.last) read.state) ∙ same-keyword st.last Item h) in
+      let at_item : behind_items (last_keyword ls) ≡ true = ap behind_items (sym (ap (λ x. x.last) read.state) ∙ same-keyword st.last (Some Item) h) in
       ap (having u) read.split ∙ having-append u ls (map line_of texts) ∙ ap (λ hs. having u ls ++ hs) (none-behind u n (last_keyword ls) at_item (map line_of texts) goes_on) ∙ append-nil (having u ls)

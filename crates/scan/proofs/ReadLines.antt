@@ -11,10 +11,11 @@ use borrow.Author.Tests.{leb-true, leb-false, not-true}
 use lib.Dec.{leb}
 use lib.ListN.{length, drop, drop_of_length-le}
 use lib.Seq.{append_snoc}
+use Rattle.std.specs.Prelude.{Some, None}
 use Rattle.algebra.specs.Lists.{All}
 use Rattle.numbers.proofs.Tests.{and_left, and_right}
 use Rattle.lines.specs.declared.keyword.Keyword.{Keyword}
-use Rattle.lines.specs.declared.keyword.Keyword.TheVariants.{Size, EntryA, EntryB, EntryC, Item, Wit, End, None}
+use Rattle.lines.specs.declared.keyword.Keyword.TheVariants.{Size, EntryA, EntryB, EntryC, Item, Wit, End}
 use Rattle.scan.specs.declared.state.State.{State}
 use Rattle.lines.specs.Text.{all_pass, fields, lines, pieces}
 use Rattle.lines.specs.Lines.{Line, line_of}
@@ -40,7 +41,7 @@ pub record ReadLines (s : List ℕ) (w : Keyword) (held₀ : List ℕ) (texts : 
 
 -- The keywords whose lines have a buffer: the state counts its numbers.
 abbrev pub has_buffer : Keyword → Bool
-has_buffer w = one_of (EntryA ∷ EntryB ∷ EntryC ∷ Item ∷ Wit ∷ []) w
+has_buffer w = one_of (EntryA ∷ EntryB ∷ EntryC ∷ Item ∷ Wit ∷ []) (Some w)
 
 counted : (w : Keyword) → has_buffer w ≡ true → (ls : List Line) → All Sound ls → (at : ℕ) → length (bytes_of w ls) ≡ 4 * count_in w (state_after ls at)
 counted EntryA b ls h at = a-length ls h
@@ -50,7 +51,6 @@ counted Item b ls h at = items-length ls h
 counted Wit b ls h at = wits-length ls h
 counted Size b ls h at = absurd (false≢true b)
 counted End b ls h at = absurd (false≢true b)
-counted None b ls h at = absurd (false≢true b)
 
 none_read : (s : List ℕ) (w : Keyword) (held : List ℕ) → ReadLines s w held (lines s) start held
 unfolding sheet_lines having line_bytes number_count last_keyword all_pass
@@ -122,7 +122,7 @@ module _ (s : List ℕ) (w : Keyword) (has : has_buffer w ≡ true) (held₀ t :
 abbrev pub Ended : Bool → List ℕ → Keyword → List ℕ → State → List ℕ → Type 0
 Ended whole s w held₀ st held =
     ((same_keyword st.last None ≡ true) × (ordered (sheet_lines s) ≡ false))
-    ⊎ ((texts : List (List ℕ)) × (ReadLines s w held₀ texts st held × ((texts ≡ []) ⊎ ((whole ≡ false) × (same_keyword st.last Item ≡ true)))))
+    ⊎ ((texts : List (List ℕ)) × (ReadLines s w held₀ texts st held × ((texts ≡ []) ⊎ ((whole ≡ false) × (same_keyword st.last (Some Item) ≡ true)))))
 
 module _ (whole : Bool) (s : List ℕ) (w : Keyword) (has : has_buffer w ≡ true) (held₀ : List ℕ) where
   -- From a line on, by whether the pass ends behind it.
@@ -140,7 +140,7 @@ module _ (whole : Bool) (s : List ℕ) (w : Keyword) (has : has_buffer w ≡ tru
       stands : follows st.last (line_of t).keyword ≡ true → (b : Bool) → over whole r ≡ b → EndsIf b
       stands f true o =
           let some : same_keyword r.last None ≡ false = step-some st (line_of t) (next_line s st.at) ∙ ap not f in
-          let item : (not whole && same_keyword r.last Item) ≡ true = ap (λ b. b || (not whole && same_keyword r.last Item)) (sym some) ∙ o in
+          let item : (not whole && same_keyword r.last (Some Item)) ≡ true = ap (λ b. b || (not whole && same_keyword r.last (Some Item))) (sym some) ∙ o in
           inr (texts, (one-read s w has held₀ t texts st held so_far f, inr (not-true whole (and_left (not whole) _ item), and_right (not whole) _ item)))
       stands f false o = rest r put (one-read s w has held₀ t texts st held so_far f)
 
@@ -148,7 +148,7 @@ module _ (whole : Bool) (s : List ℕ) (w : Keyword) (has : has_buffer w ≡ tru
       line-ends true f = stands f (over whole r) refl
       line-ends false f =
           let last : same_keyword r.last None ≡ true = step-some st (line_of t) (next_line s st.at) ∙ ap not f in
-          subst EndsIf (sym (ap (λ b. b || (not whole && same_keyword r.last Item)) last)) (inl (last, not-ordered s w has held₀ t texts st held so_far f))
+          subst EndsIf (sym (ap (λ b. b || (not whole && same_keyword r.last (Some Item))) last)) (inl (last, not-ordered s w has held₀ t texts st held so_far f))
 
   pass-ends : (texts : List (List ℕ)) (st : State) (held : List ℕ) → ReadLines s w held₀ texts st held → Ended whole s w held₀ (pass whole s texts st) (pass_into w whole s texts st held)
   unfolding pass pass_into

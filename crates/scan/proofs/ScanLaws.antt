@@ -6,10 +6,11 @@ use Prim.Native.Nat.{ℕ, ◌+◌, ◌*◌}
 use native.Mathlib.Omega.{arith}
 use lib.Dec.{eqb}
 use lib.ListN.{length, length-append}
+use Rattle.std.specs.Prelude.{Option, Some, None}
 use Rattle.algebra.specs.Lists.{All}
 use Rattle.algebra.proofs.ListLaws.{All-append}
 use Rattle.lines.specs.declared.keyword.Keyword.{Keyword}
-use Rattle.lines.specs.declared.keyword.Keyword.TheVariants.{Size, EntryA, EntryB, EntryC, Item, Wit, End, None}
+use Rattle.lines.specs.declared.keyword.Keyword.TheVariants.{Size, EntryA, EntryB, EntryC, Item, Wit, End}
 use Rattle.scan.specs.declared.state.State.{State}
 use Rattle.lines.specs.Text.{all_pass}
 use Rattle.lines.specs.Lines.{Line}
@@ -21,36 +22,36 @@ use Rattle.scan.proofs.SheetLaws.{same-keyword, all_pass-append, having-more, nu
 -- ---- which keyword may follow
 
 -- A line without a keyword follows none.
-pub follows-none : (v : Keyword) → follows v None ≡ false
-follows-none Size = refl
-follows-none EntryA = refl
-follows-none EntryB = refl
-follows-none EntryC = refl
-follows-none Item = refl
-follows-none Wit = refl
-follows-none End = refl
+pub follows-none : (v : Option Keyword) → follows v None ≡ false
+follows-none (Some Size) = refl
+follows-none (Some EntryA) = refl
+follows-none (Some EntryB) = refl
+follows-none (Some EntryC) = refl
+follows-none (Some Item) = refl
+follows-none (Some Wit) = refl
+follows-none (Some End) = refl
 follows-none None = refl
 
 -- `size` stands first only.
-follows-size : (v : Keyword) → follows v Size ≡ true → v ≡ None
-follows-size Size e = absurd (false≢true e)
-follows-size EntryA e = absurd (false≢true e)
-follows-size EntryB e = absurd (false≢true e)
-follows-size EntryC e = absurd (false≢true e)
-follows-size Item e = absurd (false≢true e)
-follows-size Wit e = absurd (false≢true e)
-follows-size End e = absurd (false≢true e)
+follows-size : (v : Option Keyword) → follows v (Some Size) ≡ true → v ≡ None
+follows-size (Some Size) e = absurd (false≢true e)
+follows-size (Some EntryA) e = absurd (false≢true e)
+follows-size (Some EntryB) e = absurd (false≢true e)
+follows-size (Some EntryC) e = absurd (false≢true e)
+follows-size (Some Item) e = absurd (false≢true e)
+follows-size (Some Wit) e = absurd (false≢true e)
+follows-size (Some End) e = absurd (false≢true e)
 follows-size None e = refl
 
 -- Nothing follows `end`.
-follows-end : (v w : Keyword) → follows v w ≡ true → same_keyword End v ≡ false
-follows-end Size w e = refl
-follows-end EntryA w e = refl
-follows-end EntryB w e = refl
-follows-end EntryC w e = refl
-follows-end Item w e = refl
-follows-end Wit w e = refl
-follows-end End w e = absurd (false≢true e)
+follows-end : (v w : Option Keyword) → follows v w ≡ true → same_keyword (Some End) v ≡ false
+follows-end (Some Size) w e = refl
+follows-end (Some EntryA) w e = refl
+follows-end (Some EntryB) w e = refl
+follows-end (Some EntryC) w e = refl
+follows-end (Some Item) w e = refl
+follows-end (Some Wit) w e = refl
+follows-end (Some End) w e = absurd (false≢true e)
 follows-end None w e = refl
 
 last_more : (ls : List Line) (l : Line) → last_keyword (ls ++ (l ∷ [])) ≡ l.keyword
@@ -61,14 +62,14 @@ last_more (h ∷ g ∷ ls) l = last_more (g ∷ ls) l
 
 -- ---- one step
 
-pub advance-last : (v : Keyword) (st : State) (xs : List ℕ) (next : ℕ) → (advance_by v st xs next).last ≡ v
-advance-last Size st xs next = refl
-advance-last EntryA st xs next = refl
-advance-last EntryB st xs next = refl
-advance-last EntryC st xs next = refl
-advance-last Item st xs next = refl
-advance-last Wit st xs next = refl
-advance-last End st xs next = refl
+pub advance-last : (v : Option Keyword) (st : State) (xs : List ℕ) (next : ℕ) → (advance_by v st xs next).last ≡ v
+advance-last (Some Size) st xs next = refl
+advance-last (Some EntryA) st xs next = refl
+advance-last (Some EntryB) st xs next = refl
+advance-last (Some EntryC) st xs next = refl
+advance-last (Some Item) st xs next = refl
+advance-last (Some Wit) st xs next = refl
+advance-last (Some End) st xs next = refl
 advance-last None st xs next = refl
 
 pub step-on : (st : State) (l : Line) (next : ℕ) → follows st.last l.keyword ≡ true → step st l next ≡ advance st l next
@@ -84,14 +85,14 @@ unfolding advance
 step-last st l next f = ap (λ x. x.last) (step-on st l next f) ∙ advance-last l.keyword st l.numbers next
 
 -- Behind a step the state is at the next line exactly if the line may stand there.
-advance-at : (u v : Keyword) → follows u v ≡ true → (st : State) (xs : List ℕ) (next : ℕ) → (advance_by v st xs next).at ≡ next
-advance-at u Size f st xs next = refl
-advance-at u EntryA f st xs next = refl
-advance-at u EntryB f st xs next = refl
-advance-at u EntryC f st xs next = refl
-advance-at u Item f st xs next = refl
-advance-at u Wit f st xs next = refl
-advance-at u End f st xs next = refl
+advance-at : (u v : Option Keyword) → follows u v ≡ true → (st : State) (xs : List ℕ) (next : ℕ) → (advance_by v st xs next).at ≡ next
+advance-at u (Some Size) f st xs next = refl
+advance-at u (Some EntryA) f st xs next = refl
+advance-at u (Some EntryB) f st xs next = refl
+advance-at u (Some EntryC) f st xs next = refl
+advance-at u (Some Item) f st xs next = refl
+advance-at u (Some Wit) f st xs next = refl
+advance-at u (Some End) f st xs next = refl
 advance-at u None f st xs next = absurd (false≢true (sym (follows-none u) ∙ f))
 
 pub step-at : (st : State) (l : Line) (next : ℕ) → follows st.last l.keyword ≡ true → (step st l next).at ≡ next
@@ -102,7 +103,7 @@ step-at st l next f = ap (λ x. x.at) (step-on st l next f) ∙ advance-at st.la
 pub step-some : (st : State) (l : Line) (next : ℕ) → same_keyword (step st l next).last None ≡ not (follows st.last l.keyword)
 step-some st l next = go (follows st.last l.keyword) refl
   where
-    some : (u v : Keyword) → follows u v ≡ true → same_keyword v None ≡ false
+    some : (u v : Option Keyword) → follows u v ≡ true → same_keyword v None ≡ false
     some u v f = go' (same_keyword v None) refl
       where
         go' : (t : Bool) → same_keyword v None ≡ t → t ≡ false
@@ -136,11 +137,11 @@ prefix-none ls (more hs l b f h) e =
     absurd (false≢true (sym (follows-none (last_keyword hs)) ∙ ap (follows (last_keyword hs)) (sym e ∙ last_more hs l) ∙ f))
 
 -- `end` is the last line.
-prefix-end : (ls : List Line) → OrderedPrefix ls → same_keyword End (last_keyword ls) ≡ false → having End ls ≡ []
+prefix-end : (ls : List Line) → OrderedPrefix ls → same_keyword (Some End) (last_keyword ls) ≡ false → having End ls ≡ []
 unfolding having
 prefix-end ls none e = refl
 prefix-end ls (more hs l b f h) e =
-    having-more End hs l ∙ ap (λ t. cond t (having End hs ++ (l ∷ [])) (having End hs)) (ap (same_keyword End) (sym (last_more hs l)) ∙ e) ∙ prefix-end hs b (follows-end (last_keyword hs) l.keyword f)
+    having-more End hs l ∙ ap (λ t. cond t (having End hs ++ (l ∷ [])) (having End hs)) (ap (same_keyword (Some End)) (sym (last_more hs l)) ∙ e) ∙ prefix-end hs b (follows-end (last_keyword hs) l.keyword f)
 
 -- ---- the state behind one line more
 
@@ -160,10 +161,10 @@ more-second false b c = refl
 
 module _ (ls : List Line) (l : Line) (at next : ℕ) where
   -- The lines with the keyword w, where l has the keyword v.
-  abbrev after : Keyword → Keyword → List Line
-  after w v = cond (same_keyword w v) (having w ls ++ (l ∷ [])) (having w ls)
+  abbrev after : Keyword → Option Keyword → List Line
+  after w v = cond (same_keyword (Some w) v) (having w ls ++ (l ∷ [])) (having w ls)
 
-  abbrev state_with : Keyword → State
+  abbrev state_with : Option Keyword → State
   state_with v = state_from v (after Size v) (after EntryA v) (after EntryB v) (after EntryC v) (after Item v) (after Wit v) (after End v) next
 
   state-more : state_after (ls ++ (l ∷ [])) next ≡ state_with l.keyword
@@ -191,31 +192,31 @@ module _ (ls : List Line) (l : Line) (at next : ℕ) where
   item-more hs = omega (arith, one_more hs, numbers_more hs)
 
   -- what the lines before say: those without a last keyword are none, and none of them is `end` unless it is the last
-  module _ (empty : last_keyword ls ≡ None → ls ≡ []) (open-end : same_keyword End (last_keyword ls) ≡ false → having End ls ≡ []) where
-    first : follows (last_keyword ls) Size ≡ true → (w : Keyword) → having w ls ≡ []
+  module _ (empty : last_keyword ls ≡ None → ls ≡ []) (open-end : same_keyword (Some End) (last_keyword ls) ≡ false → having End ls ≡ []) where
+    first : follows (last_keyword ls) (Some Size) ≡ true → (w : Keyword) → having w ls ≡ []
     unfolding having
     first f w = ap (having w) (empty (follows-size (last_keyword ls) f))
 
-    advance-after : (v : Keyword) → follows (last_keyword ls) v ≡ true → advance_by v (state_after ls at) l.numbers next ≡ state_with v
+    advance-after : (v : Option Keyword) → follows (last_keyword ls) v ≡ true → advance_by v (state_after ls at) l.numbers next ≡ state_with v
     unfolding all_pass
-    advance-after Size f = rw (first f Size, first f Item, first f Wit)
-    advance-after EntryA f = rw (one_more (having EntryA ls))
-    advance-after EntryB f = rw (one_more (having EntryB ls))
-    advance-after EntryC f = rw (one_more (having EntryC ls))
-    advance-after Item f =
+    advance-after (Some Size) f = rw (first f Size, first f Item, first f Wit)
+    advance-after (Some EntryA) f = rw (one_more (having EntryA ls))
+    advance-after (Some EntryB) f = rw (one_more (having EntryB ls))
+    advance-after (Some EntryC) f = rw (one_more (having EntryC ls))
+    advance-after (Some Item) f =
         rw (
           item-more (having Item ls),
           one_more (having Item ls),
           all_pass-append (λ h. eqb (length h.numbers) (1 + m ls + n ls)) (having Item ls) (l ∷ []),
           more-first (all_have (1 + m ls + n ls) (having Item ls)) (all_have (k ls) (having Wit ls)) (eqb (length l.numbers) (1 + m ls + n ls)),
         )
-    advance-after Wit f =
+    advance-after (Some Wit) f =
         rw (
           numbers_more (having Wit ls),
           all_pass-append (λ h. eqb (length h.numbers) (k ls)) (having Wit ls) (l ∷ []),
           more-second (all_have (1 + m ls + n ls) (having Item ls)) (all_have (k ls) (having Wit ls)) (eqb (length l.numbers) (k ls)),
         )
-    advance-after End f = rw (open-end (follows-end (last_keyword ls) End f))
+    advance-after (Some End) f = rw (open-end (follows-end (last_keyword ls) (Some End) f))
     advance-after None f = absurd (false≢true (sym (follows-none (last_keyword ls)) ∙ f))
 
 -- One line more, which may stand there, gives the state behind all of them.

@@ -6,8 +6,9 @@ use Prim.Native.Nat.{ℕ, ◌-◌, ◌≤◌, ◌<◌}
 use native.Mathlib.Omega.{arith}
 use borrow.Author.Tests.{not-false}
 use lib.ListN.{length, drop, drop_of_length-le}
+use Rattle.std.specs.Prelude.{Some, None}
 use Rattle.lines.specs.declared.keyword.Keyword.{Keyword}
-use Rattle.lines.specs.declared.keyword.Keyword.TheVariants.{EntryA, EntryB, EntryC, Item, Wit, None}
+use Rattle.lines.specs.declared.keyword.Keyword.TheVariants.{EntryA, EntryB, EntryC, Item, Wit}
 use Rattle.scan.specs.declared.state.State.{State}
 use Rattle.lines.specs.Text.{lines, pieces}
 use Rattle.lines.specs.Cursor.{fields_at, next_line}
@@ -32,15 +33,20 @@ pub record Passing (whole : Bool) (s a₀ b₀ c₀ items₀ wits₀ a b c items
   pub in-items : pass_from_into Item whole s st items ≡ scanned_into Item whole s items₀
   pub in-wits : pass_from_into Wit whole s st wits ≡ scanned_into Wit whole s wits₀
 
--- What the scan promises of its result and the buffers.
-abbrev Result : Bool → List ℕ → List ℕ → List ℕ → List ℕ → List ℕ → List ℕ → List ℕ → List ℕ → List ℕ → List ℕ → List ℕ → State → Type 0
-Result whole s a₀ b₀ c₀ items₀ wits₀ a b c items wits r =
-    (r ≡ scanned whole s)
-    × ((a ≡ scanned_into EntryA whole s a₀)
-    × ((b ≡ scanned_into EntryB whole s b₀)
-    × ((c ≡ scanned_into EntryC whole s c₀)
-    × ((items ≡ scanned_into Item whole s items₀)
-    × (wits ≡ scanned_into Wit whole s wits₀)))))
+-- What the scan promises of its result and the buffers, where `Same` says that these are those of the call.
+abbrev Result : Bool → List ℕ → List ℕ → List ℕ → List ℕ → List ℕ → List ℕ → List ℕ → List ℕ → List ℕ → List ℕ → List ℕ → Type 0 → State → Type 0
+Result whole s a₀ b₀ c₀ items₀ wits₀ a b c items wits Same r =
+    record {
+      state : r ≡ scanned whole s;
+      buffers : record {
+        a : a ≡ scanned_into EntryA whole s a₀;
+        b : b ≡ scanned_into EntryB whole s b₀;
+        c : c ≡ scanned_into EntryC whole s c₀;
+        items : items ≡ scanned_into Item whole s items₀;
+        wits : wits ≡ scanned_into Wit whole s wits₀;
+        same : Same;
+      };
+    }
 
 pub start-passing : (whole : Bool) (s a b c items wits : List ℕ) → Passing whole s a b c items wits a b c items wits start
 unfolding scanned scanned_into
@@ -50,11 +56,21 @@ start-passing whole s a b c items wits = record { bounded = omega arith; state =
 
 module _ {whole : Bool} {s a₀ b₀ c₀ items₀ wits₀ a b c items wits : List ℕ} {st : State} (so_far : Passing whole s a₀ b₀ c₀ items₀ wits₀ a b c items wits st) where
   -- at the end no line is left
-  pub end-result : length s ≤ st.at → Result whole s a₀ b₀ c₀ items₀ wits₀ a b c items wits st
+  pub end-result : length s ≤ st.at → {Same : Type 0} → Same → Result whole s a₀ b₀ c₀ items₀ wits₀ a b c items wits Same st
   unfolding pass pass_into pieces
-  end-result all =
+  end-result all same =
       let none : drop st.at s ≡ [] = drop_of_length-le s all in
-      (rw none at so_far.state, (rw none at so_far.in-a, (rw none at so_far.in_b, (rw none at so_far.in_c, (rw none at so_far.in-items, rw none at so_far.in-wits)))))
+      record {
+        state = rw none at so_far.state;
+        buffers = record {
+          a = rw none at so_far.in-a;
+          b = rw none at so_far.in_b;
+          c = rw none at so_far.in_c;
+          items = rw none at so_far.in-items;
+          wits = rw none at so_far.in-wits;
+          same = same;
+        };
+      }
 
   module _ (inside : st.at < length s) {r : State} (e : r ≡ step st (line_here s st) (next_line s st.at)) where
     abbrev next : ℕ
@@ -77,25 +93,32 @@ module _ {whole : Bool} {s a₀ b₀ c₀ items₀ wits₀ a b c items wits : Li
 
     module _ {a' b' c' items' wits' : List ℕ} (put_a : Into EntryA a a') (put_b : Into EntryB b b') (put-c : Into EntryC c c') (put-items : Into Item items items') (put-wits : Into Wit wits wits') where
       -- the pass ends behind it
-      ends : over whole r ≡ true → Result whole s a₀ b₀ c₀ items₀ wits₀ a' b' c' items' wits' r
-      ends o =
-          (sym (rw o at pass-here) ∙ so_far.state, (end EntryA a put_a ∙ so_far.in-a, (end EntryB b put_b ∙ so_far.in_b, (end EntryC c put-c ∙ so_far.in_c, (end Item items put-items ∙ so_far.in-items, end Wit wits put-wits ∙ so_far.in-wits)))))
+      pub last-result : over whole r ≡ true → {Same : Type 0} → Same → Result whole s a₀ b₀ c₀ items₀ wits₀ a' b' c' items' wits' Same r
+      last-result o same =
+          record {
+            state = sym (rw o at pass-here) ∙ so_far.state;
+            buffers = record {
+              a = end EntryA a put_a ∙ so_far.in-a;
+              b = end EntryB b put_b ∙ so_far.in_b;
+              c = end EntryC c put-c ∙ so_far.in_c;
+              items = end Item items put-items ∙ so_far.in-items;
+              wits = end Wit wits put-wits ∙ so_far.in-wits;
+              same = same;
+            };
+          }
         where
           end : (w : Keyword) (held : List ℕ) {now : List ℕ} → Into w held now → now ≡ pass_from_into w whole s st held
           end w held {now} put = sym (rw o at (into-here w held now put))
 
-      -- at a line that breaks the rules, or at an item
-      pub stopped-result : same_keyword r.last None ≡ true → Result whole s a₀ b₀ c₀ items₀ wits₀ a' b' c' items' wits' r
-      stopped-result n = ends (ap (λ t. t || (not whole && same_keyword r.last Item)) n)
+      -- it goes on
+      module _ (o : over whole r ≡ false) where
+        some : same_keyword r.last None ≡ false
+        some = go (same_keyword r.last None) refl
+          where
+            go : (t : Bool) → same_keyword r.last None ≡ t → t ≡ false
+            go true n = sym (ap (λ t. t || (not whole && same_keyword r.last (Some Item))) n) ∙ o
+            go false n = refl
 
-      module _ (some : same_keyword r.last None ≡ false) {item : Bool} (i : item ≡ same_keyword r.last Item) where
-        over-here : over whole r ≡ (not whole && item)
-        over-here = ap (λ t. t || (not whole && same_keyword r.last Item)) some ∙ ap (λ t. not whole && t) (sym i)
-
-        pub item-result : (not whole && item) ≡ true → Result whole s a₀ b₀ c₀ items₀ wits₀ a' b' c' items' wits' r
-        item-result h = ends (over-here ∙ h)
-
-        -- it goes on
         may : MayStand s st
         may = not-false (follows st.last (line_here s st).keyword) (sym (step-some st (line_here s st) next) ∙ ap (λ x. same_keyword x.last None) (sym e) ∙ some)
 
@@ -105,11 +128,11 @@ module _ {whole : Bool} {s a₀ b₀ c₀ items₀ wits₀ a b c items wits : Li
         pub less-left : length s - r.at < length s - st.at
         less-left = omega (arith, at_next, next-after s st.at inside)
 
-        pub next-passing : (not whole && item) ≡ false → (MayStand s st → Bounded (length s) r) → Passing whole s a₀ b₀ c₀ items₀ wits₀ a' b' c' items' wits' r
-        next-passing h bound =
+        pub next-passing : (MayStand s st → Bounded (length s) r) → Passing whole s a₀ b₀ c₀ items₀ wits₀ a' b' c' items' wits' r
+        next-passing bound =
             record {
               bounded = bound may;
-              state = ap (λ n. pass whole s (lines (drop n s)) r) at_next ∙ sym (rw (over-here, h) at pass-here) ∙ so_far.state;
+              state = ap (λ n. pass whole s (lines (drop n s)) r) at_next ∙ sym (rw o at pass-here) ∙ so_far.state;
               in-a = on EntryA a put_a ∙ so_far.in-a;
               in_b = on EntryB b put_b ∙ so_far.in_b;
               in_c = on EntryC c put-c ∙ so_far.in_c;
@@ -118,4 +141,4 @@ module _ {whole : Bool} {s a₀ b₀ c₀ items₀ wits₀ a b c items wits : Li
             }
           where
             on : (w : Keyword) (held : List ℕ) {now : List ℕ} → Into w held now → pass_from_into w whole s r now ≡ pass_from_into w whole s st held
-            on w held {now} put = ap (λ n. pass_into w whole s (lines (drop n s)) r now) at_next ∙ sym (rw (over-here, h) at (into-here w held now put))
+            on w held {now} put = ap (λ n. pass_into w whole s (lines (drop n s)) r now) at_next ∙ sym (rw o at (into-here w held now put))

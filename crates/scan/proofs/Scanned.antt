@@ -10,8 +10,9 @@ use native.Mathlib.Omega.{arith}
 use borrow.Author.Tests.{leb-true, leb-false}
 use lib.Dec.{leb}
 use lib.ListN.{length}
+use Rattle.std.specs.Prelude.{Some, None}
 use Rattle.lines.specs.declared.keyword.Keyword.{Keyword}
-use Rattle.lines.specs.declared.keyword.Keyword.TheVariants.{Size, EntryA, EntryB, EntryC, Wit, End, None}
+use Rattle.lines.specs.declared.keyword.Keyword.TheVariants.{Size, EntryA, EntryB, EntryC, Wit, End}
 use Rattle.scan.specs.declared.state.State.{State}
 use Rattle.scan.specs.Sheet.{same_keyword, ordered_after, ordered, sheet_lines, having, bytes_of, filled}
 use Rattle.scan.specs.Scan.{scanned, scanned_into}
@@ -40,9 +41,9 @@ module _ {s : List ℕ} {w : Keyword} {held₀ held : List ℕ} {st : State} (re
   all_lines : sheet_lines s ≡ read.ls
   all_lines = read.split ∙ append-nil read.ls
 
-  end-ordered : same_keyword st.last End ≡ ordered (sheet_lines s)
+  end-ordered : same_keyword st.last (Some End) ≡ ordered (sheet_lines s)
   unfolding ordered_after
-  end-ordered = ap (λ x. same_keyword x.last End) read.state ∙ sym (ap ordered read.split ∙ prefix-order read.ls read.in-order [])
+  end-ordered = ap (λ x. same_keyword x.last (Some End)) read.state ∙ sym (ap ordered read.split ∙ prefix-order read.ls read.in-order [])
 
   end-at : st.at ≡ length s
   end-at = go (leb (length s) st.at) refl
@@ -57,13 +58,13 @@ module _ {s : List ℕ} {w : Keyword} {held₀ held : List ℕ} {st : State} (re
 -- ---- the whole sheet. What it says of the state is read off the pass with any one buffer, here an empty one for `wit`.
 
 module _ (s : List ℕ) where
-  ordered-by : {w : Keyword} {held₀ held : List ℕ} {st : State} → Ended true s w held₀ st held → same_keyword st.last End ≡ ordered (sheet_lines s)
-  ordered-by {st = st} (inl e) = ap (λ v. same_keyword v End) (same-keyword st.last None e.0) ∙ sym e.1
+  ordered-by : {w : Keyword} {held₀ held : List ℕ} {st : State} → Ended true s w held₀ st held → same_keyword st.last (Some End) ≡ ordered (sheet_lines s)
+  ordered-by {st = st} (inl e) = ap (λ v. same_keyword v (Some End)) (same-keyword st.last None e.0) ∙ sym e.1
   ordered-by (inr (texts, (read, inl none))) = end-ordered (rw none at read)
   ordered-by (inr (texts, (read, inr part))) = absurd (true≢false part.0)
 
-  pub scanned-ordered : {st : State} → st ≡ scanned true s → same_keyword st.last End ≡ ordered (sheet_lines s)
-  scanned-ordered e = ap (λ x. same_keyword x.last End) e ∙ ordered-by (scan-ends true s Wit refl [])
+  pub scanned-ordered : {st : State} → st ≡ scanned true s → same_keyword st.last (Some End) ≡ ordered (sheet_lines s)
+  scanned-ordered e = ap (λ x. same_keyword x.last (Some End)) e ∙ ordered-by (scan-ends true s Wit refl [])
 
   module _ (o : ordered (sheet_lines s) ≡ true) where
     -- In order, all lines are read.
@@ -84,7 +85,7 @@ module _ (s : List ℕ) where
 
     -- In order, those before the first item are read.
     before-item : {w : Keyword} {held₀ held : List ℕ} {st : State} → Ended false s w held₀ st held
-        → (texts : List (List ℕ)) × (read : ReadLines s w held₀ texts st held) × ((u : Keyword) → behind_items u ≡ false → having u (sheet_lines s) ≡ having u read.ls)
+        → (texts : List (List ℕ)) × (read : ReadLines s w held₀ texts st held) × ((u : Keyword) → behind_items (Some u) ≡ false → having u (sheet_lines s) ≡ having u read.ls)
     before-item (inl e) = absurd (true≢false (sym o ∙ e.1))
     before-item (inr (texts, (read, inl none))) = let all = rw none at read in ([], all, λ u n. ap (having u) (all_lines all))
     before-item (inr (texts, (read, inr part))) = (texts, read, all-before read o part.1)
@@ -96,7 +97,7 @@ module _ (s : List ℕ) where
         let state = p.1.state in
         (rw (all Size refl) (ap (λ x. x.sizes) (e ∙ state)), rw (all EntryA refl, all EntryB refl, all EntryC refl) (ap (λ x. x.entries) (e ∙ state)))
 
-    pub entries-filled : (w : Keyword) → has_buffer w ≡ true → behind_items w ≡ false → (held : List ℕ) {now : List ℕ} → now ≡ scanned_into w false s held
+    pub entries-filled : (w : Keyword) → has_buffer w ≡ true → behind_items (Some w) ≡ false → (held : List ℕ) {now : List ℕ} → now ≡ scanned_into w false s held
         → Filled (bytes_of w (sheet_lines s)) held now
     entries-filled w has before held {now} e =
         let p = before-item (scan-ends false s w has held) in

@@ -3,14 +3,15 @@ use mathlib.Core.Bool.{◌&&◌}
 use mathlib.Core.List.{List, [], ◌∷◌}
 use Prim.Native.Nat.{ℕ, ◌+◌, ◌*◌}
 use lib.ListN.{length}
+use Rattle.std.specs.Prelude.{Option, None}
 use Rattle.lines.specs.declared.keyword.Keyword.{Keyword}
-use Rattle.lines.specs.declared.keyword.Keyword.TheVariants.{Size, EntryA, EntryB, EntryC, Item, Wit, End, None}
+use Rattle.lines.specs.declared.keyword.Keyword.TheVariants.{Size, EntryA, EntryB, EntryC, Item, Wit, End}
 use Rattle.scan.specs.declared.state.State.{State}
 use Rattle.lines.specs.Lines.{Line}
 use Rattle.scan.specs.Sheet.{having, first_at, all_have}
 
 -- The keyword of the last line; None where there is none.
-unfoldable pub last_keyword : List Line → Keyword
+unfoldable pub last_keyword : List Line → Option Keyword
 last_keyword [] = None
 last_keyword (l ∷ []) = l.keyword
 last_keyword (l ∷ h ∷ ls) = last_keyword (h ∷ ls)
@@ -21,7 +22,7 @@ number_count [] = 0
 number_count (l ∷ ls) = length l.numbers + number_count ls
 
 -- The state by the last keyword and the lines with each keyword. A root counts as eight numbers.
-abbrev pub state_from : Keyword → List Line → List Line → List Line → List Line → List Line → List Line → List Line → ℕ → State
+abbrev pub state_from : Option Keyword → List Line → List Line → List Line → List Line → List Line → List Line → List Line → ℕ → State
 state_from last sizes a b c items wits ends at = record {
   at = at;
   last = last;

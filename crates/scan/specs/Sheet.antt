@@ -1,48 +1,48 @@
 -- What a sheet says (paper 01, "The sheet and its claims listing"): its lines in order, the sizes, the circuit, the items and the witnesses.
-use Rattle.std.specs.Prelude.{Bool, false, cond, ◌&&◌, ◌||◌, List, [], ◌∷◌, ◌++◌, map, ℕ, ◌+◌, length, get_or, drop, eqb}
+use Rattle.std.specs.Prelude.{Bool, false, cond, ◌&&◌, ◌||◌, List, [], ◌∷◌, ◌++◌, map, ℕ, ◌+◌, length, get_or, drop, eqb, Option, Some, None}
 use Rattle.numbers.specs.Numbers.{bytes}
 use Rattle.lines.specs.declared.keyword.Keyword.{Keyword}
-use Rattle.lines.specs.declared.keyword.Keyword.TheVariants.{Size, EntryA, EntryB, EntryC, Item, Wit, End, None}
+use Rattle.lines.specs.declared.keyword.Keyword.TheVariants.{Size, EntryA, EntryB, EntryC, Item, Wit, End}
 use Rattle.lines.specs.Text.{all_pass, lines}
 use Rattle.lines.specs.Lines.{Line, line_of}
 
 -- ---- keywords
 
-abbrev pub number : Keyword → ℕ
-number Size = 0
-number EntryA = 1
-number EntryB = 2
-number EntryC = 3
-number Item = 4
-number Wit = 5
-number End = 6
+abbrev pub number : Option Keyword → ℕ
+number (Some Size) = 0
+number (Some EntryA) = 1
+number (Some EntryB) = 2
+number (Some EntryC) = 3
+number (Some Item) = 4
+number (Some Wit) = 5
+number (Some End) = 6
 number None = 7
 
-abbrev pub same_keyword : Keyword → Keyword → Bool
+abbrev pub same_keyword : Option Keyword → Option Keyword → Bool
 same_keyword v w = eqb (number v) (number w)
 
-abbrev pub one_of : List Keyword → Keyword → Bool
+abbrev pub one_of : List Keyword → Option Keyword → Bool
 one_of [] w = false
-one_of (v ∷ vs) w = same_keyword v w || one_of vs w
+one_of (v ∷ vs) w = same_keyword (Some v) w || one_of vs w
 
 -- The keywords of which one may stand on the next line: `size` first; then any lines `a`, then `b`, then `c`; then pairs `item` and `wit`;
 -- last `end`. None stands for no line.
-abbrev pub may_follow : Keyword → List Keyword
+abbrev pub may_follow : Option Keyword → List Keyword
 may_follow None = Size ∷ []
-may_follow Size = EntryA ∷ EntryB ∷ EntryC ∷ Item ∷ End ∷ []
-may_follow EntryA = EntryA ∷ EntryB ∷ EntryC ∷ Item ∷ End ∷ []
-may_follow EntryB = EntryB ∷ EntryC ∷ Item ∷ End ∷ []
-may_follow EntryC = EntryC ∷ Item ∷ End ∷ []
-may_follow Item = Wit ∷ []
-may_follow Wit = Item ∷ End ∷ []
-may_follow End = []
+may_follow (Some Size) = EntryA ∷ EntryB ∷ EntryC ∷ Item ∷ End ∷ []
+may_follow (Some EntryA) = EntryA ∷ EntryB ∷ EntryC ∷ Item ∷ End ∷ []
+may_follow (Some EntryB) = EntryB ∷ EntryC ∷ Item ∷ End ∷ []
+may_follow (Some EntryC) = EntryC ∷ Item ∷ End ∷ []
+may_follow (Some Item) = Wit ∷ []
+may_follow (Some Wit) = Item ∷ End ∷ []
+may_follow (Some End) = []
 
-abbrev pub follows : Keyword → Keyword → Bool
+abbrev pub follows : Option Keyword → Option Keyword → Bool
 follows v w = one_of (may_follow v) w
 
 -- Lines behind a line with the keyword v are in order, up to `end`. A line that breaks the rules has no keyword and follows none.
-unfoldable pub ordered_after : Keyword → List Line → Bool
-ordered_after v [] = same_keyword v End
+unfoldable pub ordered_after : Option Keyword → List Line → Bool
+ordered_after v [] = same_keyword v (Some End)
 ordered_after v (l ∷ ls) = follows v l.keyword && ordered_after l.keyword ls
 
 abbrev pub ordered : List Line → Bool
@@ -56,7 +56,7 @@ sheet_lines s = map line_of (lines s)
 -- The lines with a keyword.
 unfoldable pub having : Keyword → List Line → List Line
 having w [] = []
-having w (l ∷ ls) = cond (same_keyword w l.keyword) (l ∷ having w ls) (having w ls)
+having w (l ∷ ls) = cond (same_keyword (Some w) l.keyword) (l ∷ having w ls) (having w ls)
 
 abbrev pub count_of : Keyword → List Line → ℕ
 count_of w ls = length (having w ls)

@@ -3,15 +3,14 @@ use Rattle.std.specs.Prelude.{List, [], ◌∷◌, ℕ}
 use Rattle.theory.specs.Checks.{answer, written}
 use Rattle.lines.specs.declared.keyword.Keyword.TheVariants.{EntryA, EntryB, EntryC, Item, Wit}
 use Rattle.scan.specs.Sheet.{sheet_lines, bytes_of, filled}
-use Rattle.validation.specs.declared.reading.Reading.{Reading}
-use Rattle.validation.specs.SheetChecks.{buffers_fit, sheet_checks, result_of}
+use Rattle.validation.specs.SheetChecks.{Outcome, buffers_fit, sheet_checks, result_of}
 
 -- The sizes and counts as a list of numbers.
-abbrev pub sizes_of : Reading → List ℕ
+abbrev pub sizes_of : Outcome → List ℕ
 sizes_of r = r.m ∷ r.n ∷ r.k ∷ r.a ∷ r.b ∷ r.c ∷ r.pairs ∷ []
 
 pub record ReadSheet : Type 0 where
-  pub result : Reading
+  pub result : Outcome
   pub a : List ℕ
   pub b : List ℕ
   pub c : List ℕ

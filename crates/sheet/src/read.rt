@@ -1,8 +1,9 @@
 // Reading a sheet of any bytes into the buffers of a call: once all checks are passed the sheet is read again, into those buffers.
 ghost use Rattle.std.specs.Prelude.{◌≡◌};
 ghost use Rattle.sheet.specs.Reading.{read_sheet};
-ghost use Rattle.validation.specs.SheetChecks.{buffers_fit};
+ghost use Rattle.validation.specs.SheetChecks.{buffers_fit, outcome};
 
+use checks::refusal::Refusal;
 use validation::reading::Reading;
 use validation::verdict;
 
@@ -25,8 +26,8 @@ pub fn read(
     c: &mut [u8],
     items: &mut [u8],
     wits: &mut [u8],
-) -> Reading
-    ensures result { result ≡ (read_sheet sheet.now a.old b.old c.old items.old wits.old).result }
+) -> Result<Reading, Refusal>
+    ensures result { outcome result ≡ (read_sheet sheet.now a.old b.old c.old items.old wits.old).result }
     ensures a { a.new ≡ (read_sheet sheet.now a.old b.old c.old items.old wits.old).a }
     ensures b { b.new ≡ (read_sheet sheet.now a.old b.old c.old items.old wits.old).b }
     ensures c { c.new ≡ (read_sheet sheet.now a.old b.old c.old items.old wits.old).c }
@@ -34,10 +35,7 @@ pub fn read(
     ensures wits { wits.new ≡ (read_sheet sheet.now a.old b.old c.old items.old wits.old).wits }
 {
     let lengths = buffers_fit(a, b, c, items, wits);
-    let r = verdict(sheet, lengths);
-    if r.answer != 0 {
-        return r;
-    }
+    let reading = verdict(sheet, lengths)?;
     scan::scan(sheet, a, b, c, items, wits);
-    r
+    Ok(reading)
 }

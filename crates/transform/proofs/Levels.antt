@@ -5,7 +5,7 @@ use mathlib.Core.List.{List, [], ◌∷◌, ◌++◌, map}
 use Prim.Native.Nat.{ℕ, suc, ◌+◌, ◌*◌, ◌<◌}
 use native.Mathlib.Nat.{zero-mul, suc-mul, add-mul, mul_assoc, mul_left_comm, two-mul}
 use native.Mathlib.Omega.{arith}
-use lib.ListN.{length, get_or, set, drop, replicate, get_or-append}
+use lib.ListN.{length, get_or, drop, replicate, get_or-append}
 use lib.Seq.{get_or-drop, get_or-append-add}
 use Rattle.algebra.specs.Lists.{build}
 use Rattle.algebra.specs.Polynomial.{eval_poly, pow}
@@ -24,15 +24,6 @@ use Rattle.code.proofs.Taken.{taken}
 use Rattle.transform.proofs.Roots.{root, root-square, root-turn, power_at}
 
 -- ---- one number
-
--- A list of four, each of which is stored anew.
-pub four : (v : ℕ) (l : List ℕ) → length l ≡ 4 → set (set (set (set l 0 v) 1 v) 2 v) 3 v ≡ replicate 4 v
-four v [] h = absurd (omega arith)
-four v (a ∷ []) h = absurd (omega arith)
-four v (a ∷ b ∷ []) h = absurd (omega arith)
-four v (a ∷ b ∷ c ∷ []) h = absurd (omega arith)
-four v (a ∷ b ∷ c ∷ d ∷ []) h = refl
-four v (a ∷ b ∷ c ∷ d ∷ e ∷ l) h = absurd (omega arith)
 
 value-one : (c x : F) → value_at R (c ∷ []) x ≡ c
 value-one c x = value_at-eval_poly R (c ∷ []) x ∙ ring-eq R (c ∷ x ∷ []) (x₀ :+ x₁ :* num 0) x₀ tt

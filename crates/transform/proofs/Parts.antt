@@ -4,7 +4,7 @@ use mathlib.Core.Path.{◌≡◌, refl, sym, ◌∙◌, ap, ap₂}
 use mathlib.Core.Bool.{true}
 use mathlib.Core.List.{List, map, ◌++◌}
 use Prim.Native.Nat.{ℕ, zero, suc, ◌+◌, ◌*◌, ◌/◌, ◌^◌, ◌≤◌, ◌<◌}
-use native.Mathlib.Nat.{mul_assoc, mul_comm, mul_left_comm, add-mul, mul-add, mul-one, one-mul, zero-mul, two-mul, two-pow-succ}
+use native.Mathlib.Nat.{mul_assoc, mul_comm, mul_left_comm, add-mul, mul-add, mul-one, one-mul, zero-mul, two-pow-succ}
 use native.Mathlib.Omega.{arith}
 use lib.ListN.{length, get_or, take, drop, replicate, length-drop, length-map}
 use lib.Seq.{drop-drop, get_or-drop, take_all}
@@ -123,7 +123,7 @@ module _ (table w : List ℕ) (whole : table ≡ map val (points 64)) (count : i
     both : (b : ℕ) → b < n / 2 → block (v + v) b out ≡ part table w (2 * (n / 2)) (4 * t.numbers) (2 * (step / 2)) t.numbers (place d b) ++ part table w (2 * (n / 2)) (4 * t.numbers) (2 * (step / 2)) t.numbers (place d b + n / 2)
     both b g = block-double out v b ∙ ap₂ (λ (x y : List ℕ). x ++ y) (t.parts (b + b) (omega (arith, twice)) ∙ reworded _ _ (place-first b)) (t.parts (b + b + 1) (omega (arith, twice)) ∙ reworded _ _ (place-second b))
 
-    pub parts_next : (new : List ℕ) → length new ≡ length out → Blocks (n / 2) (v + v) (λ b. joint table (step / 2) v (block (v + v) b out)) new → Parts table w (n / 2) (2 * v) (step / 2) new
+    pub parts_next : (new : List ℕ) → length new ≡ length out → Blocks (n / 2) (v + v) (λ b. joint table (step / 2) v (block (v + v) b out)) new → Parts table w (n / 2) (v * 2) (step / 2) new
     parts_next new same joins = record {
       exponent = d;
       numbers = t.numbers + t.numbers;
@@ -131,14 +131,17 @@ module _ (table w : List ℕ) (whole : table ≡ map val (points 64)) (count : i
       all = mul-add (n / 2) t.numbers t.numbers ∙ half-all;
       four = omega (arith, t.four);
       spaced = step-half;
-      long = same ∙ parts-asked.1 ∙ ap (λ (m : ℕ). n / 2 * m) (sym (two-mul v));
-      parts = λ b g. ap (λ (m : ℕ). block m b new) (two-mul v) ∙ joins b g ∙ level b g;
+      long = same ∙ parts-asked.1 ∙ ap (λ (m : ℕ). n / 2 * m) (sym doubled);
+      parts = λ b g. ap (λ (m : ℕ). block m b new) doubled ∙ joins b g ∙ level b g;
     }
       where
-        values : 4 * t.numbers + 4 * t.numbers ≡ 2 * v
+        doubled : v * 2 ≡ v + v
+        doubled = omega arith
+
+        values : 4 * t.numbers + 4 * t.numbers ≡ v * 2
         values = omega (arith, t.four)
 
-        level : (b : ℕ) → b < n / 2 → joint table (step / 2) v (block (v + v) b out) ≡ part table w (n / 2) (2 * v) (step / 2) (t.numbers + t.numbers) (place d b)
+        level : (b : ℕ) → b < n / 2 → joint table (step / 2) v (block (v + v) b out) ≡ part table w (n / 2) (v * 2) (step / 2) (t.numbers + t.numbers) (place d b)
         level b g = ap₂ (joint table (step / 2)) t.four (both b g
             ∙ ap (λ (l : List ℕ). part table w (2 * (n / 2)) (4 * t.numbers) (2 * (step / 2)) t.numbers (place d b) ++ map val (codeword R (taken table (2 * (step / 2)) (4 * t.numbers)) (taken l (2 * (n / 2)) t.numbers)))
             (sym (drop-drop (n / 2) (place d b) w)))

@@ -98,9 +98,6 @@ module _ (k : ℕ) (count : is_witness_count k ≡ true) where
         go (yes z) = rw z (omega (arith, t.first, zero-mul (k / 2), place-zero (depth k - 2)))
         go (no z) = ap (λ (n : ℕ). n / 2 + b % 2 * (k / 2)) (t.filled (b / 2) (omega (arith, pos_of_ne-zero z))) ∙ sym (place-next (depth k - 2) k b blocks-power (pos_of_ne-zero z) h)
 
-    pub next-few : next < k
-    next-few = omega (arith, next_place, place-few b h)
-
     -- What is read back.
     pub stored : get_or (set xs b next) b 0 ≡ place (depth k - 2) b
     stored = get_or-set_same xs b next 0 (omega (arith, count-few k count, t.long)) ∙ next_place

@@ -15,39 +15,25 @@ fn join(table: &[u32], step: usize, half: usize, out: &mut [u32])
     requires { (length out.old ≡ half + half) × ((i : ℕ) → i < half → i * step < length table.now) × Below out.old }
     ensures { out.new ≡ joint table.now step half out.old }
 {
-    let mut i = 0;
-    while i < half {
+    for i in 0..half {
         let even = out[i];
         let product = field::mul(table[i * step], out[half + i]);
         out[half + i] = field::sub(even, product);
         out[i] = field::add(even, product);
-        i += 1;
     }
 }
 
-// Joins the first half of each of n blocks with the second.
+// Joins the first half of each of n blocks with the second. A block is cut out by its place, here and in `spread`: after
+// `chunks_exact_mut` a proof knows out's length and none of its numbers.
 fn join_all(table: &[u32], step: usize, half: usize, n: usize, out: &mut [u32])
     requires { (0 < n) × (length out.old ≡ n * (half + half)) × ((i : ℕ) → i < half → i * step < length table.now) × Below out.old }
     ensures { Blocks n (half + half) (λ b. joint table.now step half (block (half + half) b out.old)) out.new }
 {
     let size = half + half;
-    let mut b = 0;
-    while b < n {
+    for b in 0..n {
         let at = b * size;
         join(table, step, half, &mut out[at..at + size]);
-        b += 1;
     }
-}
-
-// Writes the codeword of one number: it has this value at each of its four points.
-fn constant(value: u32, out: &mut [u32])
-    requires { length out.old ≡ 4 }
-    ensures { out.new ≡ replicate 4 value }
-{
-    out[0] = value;
-    out[1] = value;
-    out[2] = value;
-    out[3] = value;
 }
 
 // Writes the codewords of single numbers: in block b that of the number of w at the block's place, which follows from the place of half of b.
@@ -57,12 +43,10 @@ fn spread(w: &[u32], out: &mut [u32])
 {
     let k = w.len();
     let mut place = [0usize; 64];
-    let mut b = 0;
-    while b < k {
+    for b in 0..k {
         place[b] = place[b / 2] / 2 + b % 2 * (k / 2);
         let at = b * 4;
-        constant(w[place[b]], &mut out[at..at + 4]);
-        b += 1;
+        out[at..at + 4].fill(w[place[b]]);
     }
 }
 
@@ -78,9 +62,9 @@ pub fn codeword(w: &[u32], out: &mut [u32])
     let mut values = 4;
     let mut step = 64;
     while 1 < n {
-        n = n / 2;
-        step = step / 2;
+        n /= 2;
+        step /= 2;
         join_all(&table, step, values, n, out);
-        values = 2 * values;
+        values *= 2;
     }
 }

@@ -1,7 +1,7 @@
 -- How many blocks the strings of an opening are hashed in: the leaf in one, and each inner node in two.
 use mathlib.Core.Path.{◌≡◌, refl, sym, ap, ◌∙◌}
 use mathlib.Core.List.{List, [], ◌∷◌, ◌++◌}
-use Prim.Native.Nat.{ℕ, zero, suc, ◌+◌, ◌-◌, ◌*◌, ◌/◌, ◌%◌, ◌≤◌, ◌<◌}
+use Prim.Native.Nat.{ℕ, zero, suc, ◌+◌, ◌*◌, ◌/◌, ◌%◌, ◌≤◌}
 use native.Mathlib.Nat.{zero-add}
 use native.Mathlib.Omega.{arith}
 use lib.ListN.{length, drop, length-drop}
@@ -12,8 +12,7 @@ use Rattle.hash.proofs.DigestLaws.{digest-length}
 use Rattle.hash.proofs.Tree.{leaf-message-blocks, node-message-blocks}
 use Rattle.tree.specs.Merkle.{leaf_string, node_string, joined, blocks_of, Long, climb_strings, opening_strings}
 use Rattle.tree.specs.Entry.{entry}
-use Rattle.tree.specs.Layout.{part, digests, opening_size, opened_value, opened_path, opened_strings}
-use Rattle.tree.proofs.Written.{digests-step}
+use Rattle.tree.specs.Layout.{digests, opening_size, opened_value, opened_path, opened_strings}
 use Rattle.tree.proofs.ReadBack.{digests-length}
 
 -- the strings of two lists
@@ -21,21 +20,6 @@ pub blocks-append : (blocks : List ℕ → ℕ) (a b : List (List ℕ)) → bloc
 unfolding blocks_of
 blocks-append blocks [] b = sym (zero-add (blocks_of blocks b))
 blocks-append blocks (s ∷ a) b = omega (arith, blocks-append blocks a b)
-
--- ---- the way up by the digests of a buffer: one step, and the end
-module _ (digest : List ℕ → List ℕ) (blocks : List ℕ → ℕ) (s own : List ℕ) (place next left : ℕ) where
-  pub climb-blocks-step : 0 < left
-      → blocks_of blocks (climb_strings digest own place (digests s next left))
-      ≡ blocks (joined (place % 2) own (part s next 32))
-      + blocks_of blocks (climb_strings digest (digest (joined (place % 2) own (part s next 32))) (place / 2) (digests s (next + 32) (left - 1)))
-  unfolding climb_strings blocks_of
-  climb-blocks-step h = ap (λ (ds : List (List ℕ)). blocks_of blocks (climb_strings digest own place ds)) (digests-step s next left h)
-
-  pub climb-blocks-end : left ≤ 0 → blocks_of blocks (climb_strings digest own place (digests s next left)) ≡ 0
-  unfolding climb_strings blocks_of digests
-  climb-blocks-end h = let e : left ≡ 0 = omega arith in ap (λ (n : ℕ). blocks_of blocks (climb_strings digest own place (digests s next n))) e
-
--- ---- all of them
 
 -- digests within a buffer have thirty-two bytes each
 pub digests-long : (s : List ℕ) (at n : ℕ) → at + 32 * n ≤ length s → Long (digests s at n)

@@ -1,7 +1,8 @@
 -- The arithmetic of levels and places as the code has it: the level below j is `j - 1`, and half of 2 ^ n is 2 ^ (n - 1).
 use mathlib.Core.Path.{◌≡◌, refl, sym, ap, ap₂, ◌∙◌}
 use mathlib.Core.List.{List}
-use Prim.Native.Nat.{ℕ, zero, suc, ◌+◌, ◌-◌, ◌/◌, ◌^◌, ◌≤◌, ◌<◌}
+use mathlib.Core.Logic.{◌⊎◌, ⊎_elim}
+use Prim.Native.Nat.{ℕ, zero, suc, ◌+◌, ◌-◌, ◌*◌, ◌/◌, ◌^◌, ◌≤◌, ◌<◌}
 use native.Mathlib.Nat.{two-pow-succ}
 use native.Mathlib.Omega.{arith}
 use lib.ListN.{length, take, drop, length-drop}
@@ -18,19 +19,19 @@ double : (n : ℕ) → 0 < n → 2 ^ n ≡ 2 ^ (n - 1) + 2 ^ (n - 1)
 double zero h = absurd (omega arith)
 double (suc k) h = rw (down k) (two-pow-succ k)
 
--- a place and its sibling n levels below the root, and the place above them
-pub half-below : (n p : ℕ) → 0 < n → p < 2 ^ n → p / 2 < 2 ^ (n - 1)
-half-below n p h l = omega (arith, double n h)
-
-pub half_of : (n first : ℕ) → 0 < n → first ≡ 2 ^ n → first / 2 ≡ 2 ^ (n - 1)
-half_of n first h e = omega (arith, double n h)
-
+-- a place and its sibling n levels below the root
 pub sibling-below : (n p : ℕ) → 0 < n → p < 2 ^ n → sibling p < 2 ^ n
 sibling-below n p h l = omega (arith, double n h)
 
 -- at most 256 leaves
 pub few : (d : ℕ) → d ≤ 8 → 2 ^ d ≤ 256
 few d h = pow_mono {i = d} {j = 8} h
+
+-- 2 ^ d numbers are four times as many as a fourth of them, where there are four or more
+pub fours-end : (d n : ℕ) → 4 * (2 ^ d / 4) ≤ n → (4 ≤ n) ⊎ (2 ^ d ≤ n) → 2 ^ d ≤ n
+fours-end zero n h far = ⊎_elim (λ f. omega arith) (λ f. f) far
+fours-end (suc zero) n h far = ⊎_elim (λ f. omega arith) (λ f. f) far
+fours-end (suc (suc k)) n h far = omega (arith, two-pow-succ (suc k), two-pow-succ k)
 
 -- ---- the two halves of 2 ^ d values, where there is more than one
 positive : (d : ℕ) → 1 < 2 ^ d → 0 < d
@@ -49,7 +50,7 @@ module _ (d : ℕ) (vs : List ℕ) (e : length vs ≡ 2 ^ d) (more : 1 < length 
   depth-positive = positive d (omega arith)
 
   half : length vs / 2 ≡ 2 ^ (d - 1)
-  half = half_of d (length vs) depth-positive e
+  half = omega (arith, double d depth-positive)
 
   pub left-length : length (take (length vs / 2) vs) ≡ 2 ^ (d - 1)
   left-length = length-take-le (length vs / 2) vs (omega arith) ∙ half

@@ -1,13 +1,12 @@
--- A store, and a run of stores: what stands where it went, what stands elsewhere, and the run as a loop makes it.
-use mathlib.Core.Path.{◌≡◌, refl, sym, ap, ap₂, subst, ◌∙◌}
+-- A store, and a run of stores: what stands where it went, and what stands elsewhere.
+use mathlib.Core.Path.{◌≡◌, refl, sym, ap, subst, ◌∙◌}
 use mathlib.Core.List.{List, [], ◌∷◌}
 use Prim.Native.Nat.{ℕ, zero, suc, ◌+◌, ◌≤◌, ◌<◌}
 use native.Mathlib.Nat.{add-zero, add-suc, suc-add}
-use native.Mathlib.Numerals.{add-one}
 use native.Mathlib.Omega.{arith}
 use borrow.Author.Count.{below_more}
-use lib.ListN.{length, get_or, drop, set, length-set, drop_of_length-le}
-use lib.Seq.{sets, drop-cons, get_or-set_same, get_or-set_other}
+use lib.ListN.{length, get_or, set, length-set}
+use lib.Seq.{sets, get_or-set_same, get_or-set_other}
 
 module _ {A : Type 0} where
   -- what holds of each element before i, and of the one stored at i
@@ -35,12 +34,3 @@ module _ {A : Type 0} where
   get_or-sets-within (a ∷ vs) l i (suc j) d h fits =
       ap (λ (n : ℕ). get_or (sets (set l i a) (suc i) vs) n d) (add-suc i j ∙ sym (suc-add i j))
       ∙ get_or-sets-within vs (set l i a) (suc i) j d (omega arith) (omega (arith, length-set l i a))
-
-  -- one more element stored, and all of them
-  pub sets_more : (vs l : List A) (at i : ℕ) (d : A) → i < length vs
-      → sets (set l (at + i) (get_or vs i d)) (at + (i + 1)) (drop (i + 1) vs) ≡ sets l (at + i) (drop i vs)
-  sets_more vs l at i d h =
-      ap₂ (λ (k n : ℕ). sets (set l (at + i) (get_or vs i d)) k (drop n vs)) (omega arith) (add-one i) ∙ ap (sets l (at + i)) (sym (drop-cons vs i d h))
-
-  pub sets-all : (vs l : List A) (at i : ℕ) → length vs ≤ i → sets l (at + i) (drop i vs) ≡ l
-  sets-all vs l at i h = ap (sets l (at + i)) (drop_of_length-le vs h)

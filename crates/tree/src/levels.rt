@@ -1,4 +1,5 @@
-// All digests of a tree in one array, level by level: four leaves or inner nodes side by side, and those that are left one by one.
+// All digests of a tree in one array, level by level: four leaves or inner nodes side by side, and those that are left one by one. The two functions that
+// hash four are not inlined: each has arrays of its own on the stack, which would stand there side by side.
 ghost use Rattle.std.specs.Prelude.{◌≡◌, [], ℕ, ◌+◌, ◌*◌, ◌^◌, ◌≤◌, ◌<◌, length, get_or};
 ghost use Rattle.std.proofs.lemmas.List.Edits.{sets};
 ghost use Rattle.hash.specs.Sha256.{digest};
@@ -7,50 +8,31 @@ ghost use Rattle.tree.specs.Entry.{entries_from};
 ghost use Rattle.tree.specs.Heap.{Leaves, IsHeap};
 
 // The digests of the leaves for four numbers, from index `at` on. The first number of all has the position `first`.
+#[inline(never)]
 fn four_leaves(values: &[u32], first: usize, at: usize) -> [[u8; 32]; 4]
     requires { (at + 4 ≤ length values.now) × (first + length values.now < 2 ^ 64) }
     ensures { (i : ℕ) → i < 4 → get_or result i [] ≡ digest (leaf_string (get_or (entries_from first values.now) (at + i) [])) }
 {
-    let none = [0u8; 128];
-    let mut padded = [none; 4];
-    let mut i = 0;
-    while i < 4 {
+    let mut padded = [[0u8; 128]; 4];
+    for i in 0..4 {
         let value = numbers::bytes_of(values[at + i] as usize);
-        let p = hash::padded_leaf(numbers::bytes_of(first + at + i), &value);
-        padded[i] = p;
-        i += 1;
+        padded[i] = hash::padded_leaf(numbers::bytes_of(first + at + i), &value);
     }
     lanes::digests(&padded, 1)
 }
 
 // The digests of the four inner nodes from n on, of those of their children.
+#[inline(never)]
 fn four_nodes(nodes: &[[u8; 32]], n: usize) -> [[u8; 32]; 4]
     requires { 2 * n + 8 ≤ length nodes.now }
     ensures { (i : ℕ) → i < 4 → get_or result i [] ≡ digest (node_string (get_or nodes.now (2 * (n + i)) []) (get_or nodes.now (2 * (n + i) + 1) [])) }
 {
-    let none = [0u8; 128];
-    let mut padded = [none; 4];
-    let mut i = 0;
-    while i < 4 {
+    let mut padded = [[0u8; 128]; 4];
+    for i in 0..4 {
         let child = 2 * (n + i);
-        let p = hash::padded_node(nodes[child], nodes[child + 1]);
-        padded[i] = p;
-        i += 1;
+        padded[i] = hash::padded_node(nodes[child], nodes[child + 1]);
     }
     lanes::digests(&padded, 2)
-}
-
-// Writes four digests from index `at` on.
-fn put_four(nodes: &mut [[u8; 32]], at: usize, four: [[u8; 32]; 4])
-    requires { at + 4 ≤ length nodes.old }
-    ensures { nodes.new ≡ sets nodes.old at four }
-{
-    let mut i = 0;
-    while i < 4 {
-        let d = four[i];
-        nodes[at + i] = d;
-        i += 1;
-    }
 }
 
 // Writes the digests of the leaves behind as many places, four at a time and then one by one.
@@ -59,15 +41,13 @@ fn fill_leaves(nodes: &mut [[u8; 32]], values: &[u32], first: usize)
     ensures { Leaves digest (entries_from first values.now) (length values.now) (length values.now) nodes.new }
 {
     let count = values.len();
-    let mut i = 0;
-    while i + 4 <= count {
-        put_four(nodes, count + i, four_leaves(values, first, i));
-        i += 4;
+    let fours = count / 4;
+    for j in 0..fours {
+        let at = count + 4 * j;
+        nodes[at..at + 4].copy_from_slice(&four_leaves(values, first, 4 * j));
     }
-    while i < count {
-        let d = crate::number_leaf(first + i, values[i]);
-        nodes[count + i] = d;
-        i += 1;
+    for i in 4 * fours..count {
+        nodes[count + i] = crate::number_leaf(first + i, values[i]);
     }
 }
 
@@ -78,14 +58,13 @@ pub fn fill(nodes: &mut [[u8; 32]], values: &[u32], depth: usize, first: usize)
     ensures { IsHeap digest depth (entries_from first values.now) nodes.new }
 {
     fill_leaves(nodes, values, first);
-    let mut n = values.len() - 1;
-    while 7 <= n {
-        n -= 4;
-        put_four(nodes, n + 1, four_nodes(nodes, n + 1));
+    let count = values.len();
+    for j in (1..count / 4).rev() {
+        let n = 4 * j;
+        let four = four_nodes(nodes, n);
+        nodes[n..n + 4].copy_from_slice(&four);
     }
-    while 0 < n {
-        let d = crate::node(nodes[2 * n], nodes[2 * n + 1]);
-        nodes[n] = d;
-        n -= 1;
+    for n in (1..count.min(4)).rev() {
+        nodes[n] = crate::node(nodes[2 * n], nodes[2 * n + 1]);
     }
 }

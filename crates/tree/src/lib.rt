@@ -1,7 +1,7 @@
 // The Merkle hash tree of RFC 6962, section 2.1, over lists of numbers: roots and openings.
 #![tactic(auto)]
 
-ghost use Rattle.std.specs.Prelude.{◌≡◌, true, ◌++◌, ◌+◌, ◌*◌, ◌%◌, ◌^◌, ◌≤◌, ◌<◌, length, take, drop};
+ghost use Rattle.std.specs.Prelude.{◌≡◌, true, ◌++◌, ◌+◌, ◌-◌, ◌*◌, ◌%◌, ◌^◌, ◌≤◌, ◌<◌, length, take, drop};
 ghost use Rattle.std.proofs.lemmas.List.Edits.{sets};
 ghost use Rattle.hash.specs.Sha256.{block_count, digest};
 ghost use Rattle.numbers.specs.Numbers.{numbers, bytes4, all_below};
@@ -22,20 +22,20 @@ fn leaf(position: usize, value: &[u8]) -> Hashed
     hash::leaf(numbers::bytes_of(position), value)
 }
 
-// The digest of the leaf for a number at a position.
+// The digest of the leaf for a number at a position. Hashing is not inlined where it would add its arrays to the stack of a whole tree.
+#[inline(never)]
 fn number_leaf(position: usize, number: u32) -> [u8; 32]
     ensures { result ≡ digest (leaf_string (entry position (bytes4 number))) }
 {
-    let hashed = leaf(position, &numbers::bytes_of(number as usize));
-    hashed.digest
+    leaf(position, &numbers::bytes_of(number as usize)).digest
 }
 
 // The digest of an inner node, of those of its two children.
+#[inline(never)]
 fn node(left: [u8; 32], right: [u8; 32]) -> [u8; 32]
     ensures { result ≡ digest (node_string left right) }
 {
-    let hashed = hash::node(left, right);
-    hashed.digest
+    hash::node(left, right).digest
 }
 
 // The root of the tree over 2 ^ depth values, at most 64, of which the first has the position `first`: all digests are worked out.
@@ -43,8 +43,7 @@ fn small_root(values: &[u32], depth: usize, first: usize) -> [u8; 32]
     requires { (length values.now ≡ 2 ^ depth) × (length values.now ≤ 64) × (first + length values.now < 2 ^ 64) }
     ensures { result ≡ root_of digest depth (entries_from first values.now) }
 {
-    let none = [0u8; 32];
-    let mut nodes = [none; 128];
+    let mut nodes = [[0u8; 32]; 128];
     levels::fill(&mut nodes, values, depth, first);
     nodes[1]
 }
@@ -95,9 +94,10 @@ fn parent(place: usize, own: [u8; 32], sibling: [u8; 32]) -> Hashed
     ensures { (result.digest ≡ digest (joined (place % 2) own sibling)) × (result.blocks ≡ block_count (joined (place % 2) own sibling)) }
 {
     if place % 2 == 0 {
-        return hash::node(own, sibling);
+        hash::node(own, sibling)
+    } else {
+        hash::node(sibling, own)
     }
-    hash::node(sibling, own)
 }
 
 // Where the opening at a place of the buffer leads for a position, and the blocks of the leaf and of each inner node up to there.
@@ -105,24 +105,18 @@ pub fn opening_root(s: &[u8], at: usize, depth: usize, position: usize) -> Hashe
     requires { at + opening_size depth ≤ length s.now }
     ensures { (result.digest ≡ opened_root digest s.now at depth position) × (result.blocks ≡ blocks_of block_count (opened_strings digest s.now at depth position)) }
 {
-    let lowest = leaf(position, &s[at..at + 4]);
-    let mut own = lowest.digest;
-    let mut blocks = lowest.blocks;
+    let Hashed {
+        mut digest,
+        mut blocks,
+    } = leaf(position, &s[at..at + 4]);
     let mut place = position;
-    let mut next = at + 4;
-    let mut left = depth;
-    while 0 < left {
-        let above = parent(place, own, digest_at(s, next));
-        own = above.digest;
+    for level in 0..depth {
+        let above = parent(place, digest, digest_at(s, at + 4 + 32 * level));
+        digest = above.digest;
         blocks += above.blocks;
-        place = place / 2;
-        next += 32;
-        left -= 1;
+        place /= 2;
     }
-    Hashed {
-        digest: own,
-        blocks,
-    }
+    Hashed { digest, blocks }
 }
 
 // Writes a value at a place of the buffer.
@@ -141,7 +135,7 @@ pub fn write_digest(out: &mut [u8], at: usize, d: [u8; 32])
     out[at..at + 32].copy_from_slice(&d);
 }
 
-// The place of the other child of a place's parent.
+// The other child of a node's parent, by its place in the level or by its index among all digests.
 fn sibling(place: usize) -> usize
     requires { place + 1 < 2 ^ 64 }
     ensures { result ≡ sibling_of place }
@@ -149,29 +143,15 @@ fn sibling(place: usize) -> usize
     place + 1 - 2 * (place % 2)
 }
 
-// Writes the path of a position out of the digests of its tree, which has count = 2 ^ depth leaves.
-fn write_path(
-    nodes: &[[u8; 32]; 512],
-    count: usize,
-    depth: usize,
-    position: usize,
-    out: &mut [u8],
-    at: usize,
-)
-    requires { (count ≡ 2 ^ depth) × (depth ≤ 8) × (position < count) × (at + 32 * depth ≤ length out.old) }
-    ensures { out.new ≡ sets out.old at (flat (heap_path nodes.now depth position)) }
+// Writes the path of the leaf with an index out of the digests of its tree, which has 2 ^ depth leaves.
+fn write_path(nodes: &[[u8; 32]; 512], depth: usize, leaf: usize, out: &mut [u8], at: usize)
+    requires { (depth ≤ 8) × (2 ^ depth ≤ leaf) × (leaf < 2 * 2 ^ depth) × (at + 32 * depth ≤ length out.old) }
+    ensures { out.new ≡ sets out.old at (flat (heap_path nodes.now depth (leaf - 2 ^ depth))) }
 {
-    let mut first = count;
-    let mut left = depth;
-    let mut place = position;
-    let mut next = at;
-    while 0 < left {
-        let d = nodes[first + sibling(place)];
-        write_digest(out, next, d);
-        place = place / 2;
-        first = first / 2;
-        next += 32;
-        left -= 1;
+    let mut n = leaf;
+    for level in 0..depth {
+        write_digest(out, at + 32 * level, nodes[sibling(n)]);
+        n /= 2;
     }
 }
 
@@ -188,25 +168,20 @@ fn write_opening(
     ensures { out.new ≡ sets out.old at (own_opening digest depth values.now position) }
 {
     write_value(out, at, values[position]);
-    write_path(nodes, values.len(), depth, position, out, at + 4);
+    write_path(nodes, depth, values.len() + position, out, at + 4);
 }
 
 // Writes the openings of the positions in the tree over 2 ^ depth values, one after the other. They fill the buffer.
+#[inline(never)]
 pub fn write_openings(values: &[u32], depth: usize, positions: &[u8], out: &mut [u8])
     requires { (length values.now ≡ 2 ^ depth) × (depth ≤ 8) × (all_below (2 ^ depth) (numbers positions.now) ≡ true) × (length out.old ≡ length (numbers positions.now) * opening_size depth) }
     ensures { out.new ≡ own_openings digest depth values.now (numbers positions.now) }
 {
-    let none = [0u8; 32];
-    let mut nodes = [none; 512];
+    let mut nodes = [[0u8; 32]; 512];
     levels::fill(&mut nodes, values, depth, 0);
-    let count = positions.len() / 4;
     let size = 4 + 32 * depth;
-    let mut q = 0;
-    let mut at = 0;
-    while q < count {
-        let position = numbers::get(positions, q);
-        write_opening(values, &nodes, depth, position as usize, out, at);
-        q += 1;
-        at += size;
+    for q in 0..positions.len() / 4 {
+        let position = numbers::get(positions, q) as usize;
+        write_opening(values, &nodes, depth, position, out, q * size);
     }
 }

@@ -1,57 +1,80 @@
--- After the scan of a sheet that keeps the rules and passes check 2: how long what was read is, checks 3, 4 and 13 of it, and an acceptance.
-use mathlib.Core.Path.{◌≡◌, sym, ap, ◌∙◌}
-use mathlib.Core.Bool.{true}
-use mathlib.Core.List.{List, []}
+-- After the scan of a sheet that keeps the rules and passes check 2: what was read lies at the fronts of the buffers.
+use mathlib.Core.Path.{◌≡◌, sym, ap, ap₂, subst, ◌∙◌}
+use mathlib.Core.Bool.{Bool, true, ◌&&◌}
+use mathlib.Core.List.{List}
 use Prim.Native.Nat.{ℕ, ◌*◌, ◌≤◌}
+use native.Mathlib.Nat.{mul-le-mul}
 use native.Mathlib.Omega.{arith}
 use lib.ListN.{length, take}
+use borrow.Author.Tests.{leb-true}
+use lib.Dec.{leb}
 use lib.Seq.{take_at}
-use Rattle.theory.specs.Checks.{answer}
-use Rattle.theory.specs.Fp.{item_size, list_checks}
-use Rattle.lines.specs.declared.keyword.Keyword.TheVariants.{EntryA, EntryB, EntryC, Item, Wit}
+use Rattle.std.specs.Prelude.{Some}
+use Rattle.std.specs.Option.{option_eq}
+use Rattle.lines.specs.contracts.keyword.KeywordPartialEq.TheImpl.{eq-value}
+use Rattle.theory.specs.Sizes.{elements_below, circuit_below, circuit_in_order, items_leading_one}
+use Rattle.theory.specs.Fp.{fp, item_size, items_below}
+use Rattle.lines.specs.declared.keyword.Keyword.TheVariants.{EntryA, EntryB, EntryC, Item, Wit, End}
 use Rattle.validation.specs.declared.reading.Reading.{Reading}
 use Rattle.scan.specs.declared.state.State.{State}
 use Rattle.scan.specs.Sheet.{sheet_lines, ordered, m, n, k, pairs, bytes_of, pairs_fit}
-use Rattle.validation.specs.SheetChecks.{state_fits, result_of}
-use Rattle.validation.specs.CheckParts.{circuit_checks}
+use Rattle.validation.specs.SheetChecks.{keeps_rules, counts_fit, state_fits}
+use Rattle.validation.specs.CheckParts.{IsReadingOf}
+use Rattle.validation.specs.Counts.{IsReading, EntryLengths, PairLengths}
 use Rattle.scan.proofs.StateAfter.{state_after}
-use Rattle.scan.proofs.Scanned.{Filled, SameEntries}
-use Rattle.validation.specs.Bounds.{CountBounds, EntryLengths, PairLengths}
+use Rattle.scan.specs.Scan.{scanned}
+use Rattle.scan.proofs.SheetLaws.{end-test}
+use Rattle.scan.proofs.Scanned.{Filled, scanned-ordered, scanned-state}
 use Rattle.validation.proofs.ByteCounts.{a-size, b-size, c-size, items-counted, wits-counted, items-size, wits-size}
-use Rattle.validation.proofs.SheetCheckLaws.{count-bounds, state-pairs-fit, items-most, wits-most}
-
--- The sheet s, which keeps the rules and passes check 2, was scanned, and st is the state behind it.
-pub record AfterScan (s : List ℕ) (st : State) : Type 0 where
-  pub state : st ≡ state_after (sheet_lines s) (length s)
-  pub is-ordered : ordered (sheet_lines s) ≡ true
-  pub fits : state_fits st ≡ true
+use Rattle.validation.proofs.SheetCheckLaws.{short, state-pairs-fit, rules-ordered}
 
 -- The front of a buffer into which xs was put.
 front : {i : ℕ} (xs held now : List ℕ) → Filled xs held now → length xs ≡ i → i ≤ length held → take i now ≡ xs
 front {i} xs held now put e room = ap (take i) (put (omega arith)) ∙ take_at xs _ i e
 
-module _ {s : List ℕ} {st : State} (scanned : AfterScan s st) where
-  abbrev is-ordered : ordered (sheet_lines s) ≡ true
-  is-ordered = scanned.is-ordered
+-- The greatest contents fit.
+module _ (r : Reading) where
+  pub items-most : r.pairs * item_size r.sizes.m r.sizes.n ≤ 20224
+  items-most = mul-le-mul {n₂ = 64} {m₂ = 316} r.pairs_most (omega arith)
 
+  pub wits-most : r.pairs * r.sizes.k ≤ 4096
+  wits-most = mul-le-mul {n₂ = 64} {m₂ = 64} r.pairs_most r.sizes.k_most
+
+-- The sheet s, which keeps the rules and passes check 2, was scanned, and r has the counts of the state behind it.
+pub record AfterScan (s : List ℕ) (st : State) (r : Reading) : Type 0 where
+  pub state : st ≡ state_after (sheet_lines s) (length s)
+  pub keeps : keeps_rules s ≡ true
+  pub fits : state_fits st ≡ true
+  pub counts : IsReading st.sizes.m st.sizes.n st.sizes.k st.entries.a st.entries.b st.entries.c st.pairs.count r
+
+-- Checks 1 and 2 by the state.
+module _ (s : List ℕ) {st : State} (scan : st ≡ scanned true s) where
+  pub rules-test : {end : Bool} → leb (length s) 60000 ≡ true → end ≡ option_eq eq-value.it st.last (Some End) → end ≡ keeps_rules s
+  rules-test long e = short s (leb-true _ _ long) (e ∙ end-test st.last ∙ scanned-ordered s scan)
+
+  module _ (keeps : keeps_rules s ≡ true) where
+    pub counts-test : state_fits st ≡ counts_fit (sheet_lines s)
+    counts-test = ap state_fits (scanned-state s (rules-ordered s keeps) scan)
+
+    pub after-scan : {r : Reading} → (state_fits st ≡ true) × IsReading st.sizes.m st.sizes.n st.sizes.k st.entries.a st.entries.b st.entries.c st.pairs.count r → AfterScan s st r
+    after-scan h = record { state = scanned-state s (rules-ordered s keeps) scan; keeps = keeps; fits = h.0; counts = h.1 }
+
+module _ {s : List ℕ} {st : State} {r : Reading} (scanned : AfterScan s st r) where
   abbrev state : st ≡ state_after (sheet_lines s) (length s)
   state = scanned.state
 
-  pub bounds : CountBounds st.sizes.m st.sizes.n st.sizes.k st.entries.a st.entries.b st.entries.c st.pairs.count
-  bounds = count-bounds st scanned.fits
+  pub is-reading-of : IsReadingOf s r
+  is-reading-of = record {
+    in-order = scanned.keeps;
+    fits = ap state_fits (sym state) ∙ scanned.fits;
+    counts = subst (λ (t : State). IsReading t.sizes.m t.sizes.n t.sizes.k t.entries.a t.entries.b t.entries.c t.pairs.count r) state scanned.counts;
+  }
+
+  is-ordered : ordered (sheet_lines s) ≡ true
+  is-ordered = rules-ordered s scanned.keeps
 
   pairs-fit : pairs_fit (sheet_lines s) ≡ true
   pairs-fit = ap (λ (t : State). t.fit) (sym state) ∙ state-pairs-fit st scanned.fits
-
-  -- The lengths of what was read.
-  a-long : length (bytes_of EntryA (sheet_lines s)) ≡ 12 * st.entries.a
-  a-long = a-size s is-ordered ∙ ap (λ (t : State). 12 * t.entries.a) (sym state)
-
-  b-long : length (bytes_of EntryB (sheet_lines s)) ≡ 12 * st.entries.b
-  b-long = b-size s is-ordered ∙ ap (λ (t : State). 12 * t.entries.b) (sym state)
-
-  c-long : length (bytes_of EntryC (sheet_lines s)) ≡ 12 * st.entries.c
-  c-long = c-size s is-ordered ∙ ap (λ (t : State). 12 * t.entries.c) (sym state)
 
   items-long : length (bytes_of Item (sheet_lines s)) ≡ 4 * st.pairs.items
   items-long = sym (items-counted s is-ordered) ∙ ap (λ (t : State). 4 * t.pairs.items) (sym state)
@@ -59,54 +82,59 @@ module _ {s : List ℕ} {st : State} (scanned : AfterScan s st) where
   wits-long : length (bytes_of Wit (sheet_lines s)) ≡ 4 * st.pairs.wits
   wits-long = sym (wits-counted s is-ordered) ∙ ap (λ (t : State). 4 * t.pairs.wits) (sym state)
 
-  pub items-whole : 4 * st.pairs.items ≡ st.pairs.count * item_size st.sizes.m st.sizes.n
-  items-whole = sym items-long ∙ (items-size s is-ordered pairs-fit ∙ ap (λ (t : State). t.pairs.count * item_size t.sizes.m t.sizes.n) (sym state))
+  pub items-whole : 4 * st.pairs.items ≡ r.pairs * item_size r.sizes.m r.sizes.n
+  items-whole = rw (is-reading-of.counts.pairs-is, is-reading-of.counts.m-is, is-reading-of.counts.n-is) (sym items-long ∙ items-size s is-ordered pairs-fit)
 
-  pub wits-whole : 4 * st.pairs.wits ≡ 4 * (st.pairs.count * st.sizes.k)
-  wits-whole = sym wits-long ∙ (wits-size s is-ordered pairs-fit ∙ ap (λ (t : State). 4 * (t.pairs.count * t.sizes.k)) (sym state))
+  pub wits-whole : 4 * st.pairs.wits ≡ 4 * (r.pairs * r.sizes.k)
+  wits-whole = rw (is-reading-of.counts.pairs-is, is-reading-of.counts.k-is) (sym wits-long ∙ wits-size s is-ordered pairs-fit)
 
-  -- Checks 3 and 13 of the pairs at the fronts of the buffers are those of the lines.
-  pub pairs-same : (items₀ wits₀ items wits : List ℕ) → PairLengths items₀ wits₀ → Filled (bytes_of Item (sheet_lines s)) items₀ items → Filled (bytes_of Wit (sheet_lines s)) wits₀ wits
-      → answer (list_checks st.sizes.m st.sizes.n st.sizes.k st.pairs.count [] [] [] [] (take (4 * st.pairs.items) items) (take (4 * st.pairs.wits) wits))
-      ≡ (let ls = sheet_lines s in answer (list_checks (m ls) (n ls) (k ls) (pairs ls) [] [] [] [] (bytes_of Item ls) (bytes_of Wit ls)))
-  pairs-same items₀ wits₀ items wits large put-items put-wits =
-      let i = front (bytes_of Item (sheet_lines s)) items₀ items put-items items-long (omega (arith, items-whole, items-most bounds, large.items-length)) in
-      let w = front (bytes_of Wit (sheet_lines s)) wits₀ wits put-wits wits-long (omega (arith, wits-whole, wits-most bounds, large.wits-length)) in
-      rw (i, w) (ap (λ (t : State). answer (list_checks t.sizes.m t.sizes.n t.sizes.k t.pairs.count [] [] [] [] (bytes_of Item (sheet_lines s)) (bytes_of Wit (sheet_lines s)))) state)
+  pub items-inside : 4 * st.pairs.items ≤ 20224
+  items-inside = omega (arith, items-whole, items-most r)
 
-  -- What an acceptance gives.
-  pub accepted : {r : Reading} {y : ℕ} → r ≡ record { answer = 0; m = st.sizes.m; n = st.sizes.n; k = st.sizes.k; a = st.entries.a; b = st.entries.b; c = st.entries.c; pairs = st.pairs.count } → 0 ≡ y
-      → r ≡ result_of y (sheet_lines s)
-  accepted e z =
-      e
-      ∙ (ap (λ (t : State). record { answer = 0; m = t.sizes.m; n = t.sizes.n; k = t.sizes.k; a = t.entries.a; b = t.entries.b; c = t.entries.c; pairs = t.pairs.count }) state
-      ∙ ap (λ (t : ℕ). result_of t (sheet_lines s)) z)
+  pub wits-inside : 4 * st.pairs.wits ≤ 16384
+  wits-inside = omega (arith, wits-whole, wits-most r)
 
--- The entries of such a sheet were read, and st is the state behind them.
-module _ {s : List ℕ} (whole : AfterScan s (state_after (sheet_lines s) (length s))) (st : State) (same : SameEntries st (state_after (sheet_lines s) (length s))) where
-  pub entry-bounds : CountBounds st.sizes.m st.sizes.n st.sizes.k st.entries.a st.entries.b st.entries.c 0
-  entry-bounds =
-      let most = bounds whole in
-      rw (same.0, same.1) (
-      record {
-        m-most = most.m-most;
-        n-least = most.n-least;
-        n-most = most.n-most;
-        k-counts = most.k-counts;
-        k-most = most.k-most;
-        a-most = most.a-most;
-        b-most = most.b-most;
-        c-most = most.c-most;
-        pairs-most = omega arith;
-      })
+  module _ {items₀ wits₀ items wits : List ℕ} (large : PairLengths items₀ wits₀) (put-items : Filled (bytes_of Item (sheet_lines s)) items₀ items) (put-wits : Filled (bytes_of Wit (sheet_lines s)) wits₀ wits) where
+    items-front : take (4 * st.pairs.items) items ≡ bytes_of Item (sheet_lines s)
+    items-front = front (bytes_of Item (sheet_lines s)) items₀ items put-items items-long (omega (arith, items-inside, large.items-length))
 
-  -- Checks 3 and 4 of the circuit at the fronts of the buffers are those of the lines.
-  pub circuit-same : (a₀ b₀ c₀ a b c : List ℕ) → EntryLengths a₀ b₀ c₀
-      → Filled (bytes_of EntryA (sheet_lines s)) a₀ a → Filled (bytes_of EntryB (sheet_lines s)) b₀ b → Filled (bytes_of EntryC (sheet_lines s)) c₀ c
-      → answer (list_checks st.sizes.m st.sizes.n st.sizes.k 0 [] (take (12 * st.entries.a) a) (take (12 * st.entries.b) b) (take (12 * st.entries.c) c) [] [])
-      ≡ answer (circuit_checks (sheet_lines s))
-  circuit-same a₀ b₀ c₀ a b c large put_a put_b put-c =
-      let p = front (bytes_of EntryA (sheet_lines s)) a₀ a put_a (a-long whole) (omega (arith, (bounds whole).a-most, large.a-length)) in
-      let q = front (bytes_of EntryB (sheet_lines s)) b₀ b put_b (b-long whole) (omega (arith, (bounds whole).b-most, large.b-length)) in
-      let r = front (bytes_of EntryC (sheet_lines s)) c₀ c put-c (c-long whole) (omega (arith, (bounds whole).c-most, large.c-length)) in
-      rw (same.0, same.1, p, q, r)
+    wits-front : take (4 * st.pairs.wits) wits ≡ bytes_of Wit (sheet_lines s)
+    wits-front = front (bytes_of Wit (sheet_lines s)) wits₀ wits put-wits wits-long (omega (arith, wits-inside, large.wits-length))
+
+    pub items-count : length (take (4 * st.pairs.items) items) ≡ r.pairs * item_size r.sizes.m r.sizes.n
+    items-count = ap length items-front ∙ items-long ∙ items-whole
+
+    -- Checks 3 and 13 of the fronts are those of the lines.
+    items-read : items_below r.sizes.m r.sizes.n r.pairs (take (4 * st.pairs.items) items) ≡ (let ls = sheet_lines s in items_below (m ls) (n ls) (pairs ls) (bytes_of Item ls))
+    items-read = rw (items-front, is-reading-of.counts.m-is, is-reading-of.counts.n-is, is-reading-of.counts.pairs-is)
+
+    pub below-read : {i w : Bool} → i ≡ items_below r.sizes.m r.sizes.n r.pairs (take (4 * st.pairs.items) items) → w ≡ elements_below (take (4 * st.pairs.wits) wits)
+        → (i && w) ≡ (let ls = sheet_lines s in items_below (m ls) (n ls) (pairs ls) (bytes_of Item ls) && elements_below (bytes_of Wit ls))
+    below-read ei ew = ap₂ ◌&&◌ (ei ∙ items-read) (ew ∙ ap elements_below wits-front)
+
+    pub leading-read : {t : Bool} → t ≡ items_leading_one fp r.sizes.m r.sizes.n r.pairs (take (4 * st.pairs.items) items)
+        → t ≡ (let ls = sheet_lines s in items_leading_one fp (m ls) (n ls) (pairs ls) (bytes_of Item ls))
+    leading-read e = e ∙ rw (items-front, is-reading-of.counts.m-is, is-reading-of.counts.n-is, is-reading-of.counts.pairs-is)
+
+-- The entries of a reading's sheet at the fronts of the buffers.
+module _ {s : List ℕ} {r : Reading} (reading : IsReadingOf s r) {a₀ b₀ c₀ a b c : List ℕ} (large : EntryLengths a₀ b₀ c₀)
+    (put_a : Filled (bytes_of EntryA (sheet_lines s)) a₀ a) (put_b : Filled (bytes_of EntryB (sheet_lines s)) b₀ b) (put-c : Filled (bytes_of EntryC (sheet_lines s)) c₀ c) where
+  o : ordered (sheet_lines s) ≡ true
+  o = rules-ordered s reading.in-order
+
+  a-front : take (12 * r.a) a ≡ bytes_of EntryA (sheet_lines s)
+  a-front = front (bytes_of EntryA (sheet_lines s)) a₀ a put_a (omega (arith, a-size s o, reading.counts.a-is)) (omega (arith, large.a-length, r.a_most))
+
+  b-front : take (12 * r.b) b ≡ bytes_of EntryB (sheet_lines s)
+  b-front = front (bytes_of EntryB (sheet_lines s)) b₀ b put_b (omega (arith, b-size s o, reading.counts.b-is)) (omega (arith, large.b-length, r.b_most))
+
+  c-front : take (12 * r.c) c ≡ bytes_of EntryC (sheet_lines s)
+  c-front = front (bytes_of EntryC (sheet_lines s)) c₀ c put-c (omega (arith, c-size s o, reading.counts.c-is)) (omega (arith, large.c-length, r.c_most))
+
+  -- Checks 3 and 4 of the fronts are those of the lines.
+  pub values-read : circuit_below (take (12 * r.a) a) (take (12 * r.b) b) (take (12 * r.c) c) ≡ (let ls = sheet_lines s in circuit_below (bytes_of EntryA ls) (bytes_of EntryB ls) (bytes_of EntryC ls))
+  values-read = rw (a-front, b-front, c-front)
+
+  pub order-read : circuit_in_order r.sizes.m r.sizes.n r.sizes.k (take (12 * r.a) a) (take (12 * r.b) b) (take (12 * r.c) c)
+      ≡ (let ls = sheet_lines s in circuit_in_order (m ls) (n ls) (k ls) (bytes_of EntryA ls) (bytes_of EntryB ls) (bytes_of EntryC ls))
+  order-read = rw (a-front, b-front, c-front, reading.counts.m-is, reading.counts.n-is, reading.counts.k-is)

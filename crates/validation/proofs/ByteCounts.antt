@@ -10,8 +10,9 @@ use lib.ListN.{length}
 use Rattle.algebra.specs.Lists.{All}
 use Rattle.theory.specs.Fp.{item_size}
 use Rattle.numbers.proofs.Tests.{and_left, and_right}
+use Rattle.std.specs.Prelude.{Option, Some, None}
 use Rattle.lines.specs.declared.keyword.Keyword.{Keyword}
-use Rattle.lines.specs.declared.keyword.Keyword.TheVariants.{Size, EntryA, EntryB, EntryC, Item, Wit, End, None}
+use Rattle.lines.specs.declared.keyword.Keyword.TheVariants.{Size, EntryA, EntryB, EntryC, Item, Wit, End}
 use Rattle.lines.specs.Text.{all_pass, lines}
 use Rattle.lines.specs.Lines.{Line}
 use Rattle.scan.specs.Sheet.{same_keyword, follows, ordered_after, ordered, sheet_lines, having, count_of, m, n, k, pairs, bytes_of, all_have, pairs_fit}
@@ -30,39 +31,39 @@ all-numbers count (l ∷ hs) h =
 -- ---- a line `wit` behind each line `item`
 
 -- Only `wit` follows `item`, and it follows nothing else.
-not-wit : (v : Keyword) → follows v Wit ≡ false → (w : Keyword) → follows v w ≡ true → same_keyword Wit w ≡ false
-not-wit v none w f = go (same_keyword Wit w) refl
+not-wit : (v : Option Keyword) → follows v (Some Wit) ≡ false → (w : Option Keyword) → follows v w ≡ true → same_keyword (Some Wit) w ≡ false
+not-wit v none w f = go (same_keyword (Some Wit) w) refl
   where
-    go : (t : Bool) → same_keyword Wit w ≡ t → t ≡ false
-    go true e = absurd (false≢true (sym none ∙ ap (follows v) (same-keyword Wit w e) ∙ f))
+    go : (t : Bool) → same_keyword (Some Wit) w ≡ t → t ≡ false
+    go true e = absurd (false≢true (sym none ∙ ap (follows v) (same-keyword (Some Wit) w e) ∙ f))
     go false e = refl
 
-follows-wit : (v w : Keyword) → follows v w ≡ true → same_keyword Wit w ≡ same_keyword Item v
-follows-wit Size w f = not-wit Size refl w f
-follows-wit EntryA w f = not-wit EntryA refl w f
-follows-wit EntryB w f = not-wit EntryB refl w f
-follows-wit EntryC w f = not-wit EntryC refl w f
-follows-wit Item w f = sym (or-false (same_keyword Wit w)) ∙ f
-follows-wit Wit w f = not-wit Wit refl w f
-follows-wit End w f = not-wit End refl w f
+follows-wit : (v w : Option Keyword) → follows v w ≡ true → same_keyword (Some Wit) w ≡ same_keyword (Some Item) v
+follows-wit (Some Size) w f = not-wit (Some Size) refl w f
+follows-wit (Some EntryA) w f = not-wit (Some EntryA) refl w f
+follows-wit (Some EntryB) w f = not-wit (Some EntryB) refl w f
+follows-wit (Some EntryC) w f = not-wit (Some EntryC) refl w f
+follows-wit (Some Item) w f = sym (or-false (same_keyword (Some Wit) w)) ∙ f
+follows-wit (Some Wit) w f = not-wit (Some Wit) refl w f
+follows-wit (Some End) w f = not-wit (Some End) refl w f
 follows-wit None w f = not-wit None refl w f
 
 -- 1 where a test passes.
 abbrev bit : Bool → ℕ
 bit t = cond t 1 0
 
-count-cons : (w : Keyword) (l : Line) (ls : List Line) → count_of w (l ∷ ls) ≡ bit (same_keyword w l.keyword) + count_of w ls
+count-cons : (w : Keyword) (l : Line) (ls : List Line) → count_of w (l ∷ ls) ≡ bit (same_keyword (Some w) l.keyword) + count_of w ls
 unfolding having
-count-cons w l ls = go (same_keyword w l.keyword)
+count-cons w l ls = go (same_keyword (Some w) l.keyword)
   where
     go : (t : Bool) → length (cond t (l ∷ having w ls) (having w ls)) ≡ bit t + length (having w ls)
     go true = omega arith
     go false = omega arith
 
 -- Behind `item` one more.
-as-many-after : (v : Keyword) (ls : List Line) → ordered_after v ls ≡ true → count_of Wit ls ≡ count_of Item ls + bit (same_keyword Item v)
+as-many-after : (v : Option Keyword) (ls : List Line) → ordered_after v ls ≡ true → count_of Wit ls ≡ count_of Item ls + bit (same_keyword (Some Item) v)
 unfolding ordered_after having
-as-many-after v [] h = omega (arith, ap (λ w. bit (same_keyword Item w)) (same-keyword v End h))
+as-many-after v [] h = omega (arith, ap (λ w. bit (same_keyword (Some Item) w)) (same-keyword v (Some End) h))
 as-many-after v (l ∷ ls) h =
     let w = l.keyword in
     omega (

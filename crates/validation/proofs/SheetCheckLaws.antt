@@ -1,40 +1,43 @@
 -- The checks of a sheet: what check 1 and check 2 show, and what a refusal gives.
 use mathlib.Core.Path.{◌≡◌, refl, ap, ◌∙◌}
-use mathlib.Core.Bool.{Bool, true}
+use mathlib.Core.Bool.{Bool, true, false, cond}
 use mathlib.Core.List.{List, [], ◌∷◌}
-use Prim.Native.Nat.{ℕ, zero, suc, ◌*◌, ◌≤◌, ◌<◌}
-use native.Mathlib.Nat.{mul-le-mul}
-use native.Mathlib.Omega.{arith}
-use borrow.Author.Tests.{leb-true, eqb-true, le-leb, lt-leb}
+use Prim.Native.Nat.{ℕ, zero, suc, ◌≤◌}
+use borrow.Author.Tests.{leb-true, eqb-true, le-leb}
 use lib.Dec.{leb, eqb}
 use lib.ListN.{length}
-use Rattle.algebra.specs.Lists.{All}
-use Rattle.numbers.proofs.Tests.{each-true}
+use Rattle.std.specs.Prelude.{replicate, Option, None, Result, Ok, Err}
+use Rattle.std.specs.Option.{ok_or}
+use Rattle.std.proofs.lemmas.List.{length-replicate}
+use Rattle.numbers.proofs.Tests.{each-true, and_left, and_right}
 use Rattle.code.specs.Points.{is_witness_count}
-use Rattle.code.proofs.Sizes.{count-few}
-use Rattle.theory.specs.Checks.{answer}
+use Rattle.theory.specs.Checks.{answer_if}
 use Rattle.theory.specs.Sizes.{has_length}
-use Rattle.theory.specs.Fp.{item_size}
-use Rattle.checks.proofs.Calls.{fails, and-fails, and-passes}
+use Rattle.checks.specs.declared.refusal.Refusal.{Refusal}
+use Rattle.checks.specs.Refusals.{number_of, answer_of}
+use Rattle.checks.proofs.Calls.{and-passes, some-number}
 use Rattle.lines.specs.Lines.{Line}
 use Rattle.validation.specs.declared.reading.Reading.{Reading}
 use Rattle.scan.specs.declared.state.State.{State}
 use Rattle.scan.specs.Sheet.{sheet_lines, ordered}
-use Rattle.validation.specs.SheetChecks.{keeps_rules, state_fits, buffers_fit, result_of}
-use Rattle.validation.specs.CheckParts.{pair_checks}
-use Rattle.validation.specs.Bounds.{CountBounds, EntryLengths, PairLengths}
+use Rattle.validation.specs.SheetChecks.{keeps_rules, state_fits, buffers_fit, result_of, outcome}
+use Rattle.validation.specs.CheckParts.{IsReadingOf}
+use Rattle.validation.specs.Counts.{EntryLengths, PairLengths}
 
 -- ---- check 1
-
-pub too_long : (s : List ℕ) (lengths : Bool) → 60000 < length s → 1 ≡ answer (pair_checks s lengths)
-too_long s lengths h = fails 1 _ (and-fails (ordered (sheet_lines s)) (lt-leb (length s) 60000 h)) refl
 
 pub short : (s : List ℕ) {r : Bool} → length s ≤ 60000 → r ≡ ordered (sheet_lines s) → r ≡ keeps_rules s
 short s h e = and-passes (le-leb (length s) 60000 h) e
 
+pub rules-short : (s : List ℕ) → keeps_rules s ≡ true → length s ≤ 60000
+rules-short s h = leb-true (length s) 60000 (and_left _ (ordered (sheet_lines s)) h)
+
+pub rules-ordered : (s : List ℕ) → keeps_rules s ≡ true → ordered (sheet_lines s) ≡ true
+rules-ordered s h = and_right (leb (length s) 60000) _ h
+
 -- ---- check 2
 
--- The tests behind that of m.
+-- The tests behind those of m, n and k.
 abbrev tests : State → List Bool
 tests st =
     leb 1 st.sizes.n ∷ leb st.sizes.n 64 ∷ is_witness_count st.sizes.k
@@ -44,26 +47,8 @@ tests st =
     ∷ eqb st.end st.pairs.count
     ∷ []
 
--- The counts are small, and every pair fits.
-module _ (st : State) (fits : state_fits st ≡ true) where
-  each : All (λ b. b ≡ true) (leb st.sizes.m 6 ∷ tests st)
-  each = each-true (leb st.sizes.m 6) (tests st) fits
-
-  pub count-bounds : CountBounds st.sizes.m st.sizes.n st.sizes.k st.entries.a st.entries.b st.entries.c st.pairs.count
-  count-bounds = record {
-    m-most = leb-true st.sizes.m 6 each.0;
-    n-least = leb-true 1 st.sizes.n each.1.0;
-    n-most = leb-true st.sizes.n 64 each.1.1.0;
-    k-counts = each.1.1.1.0;
-    k-most = count-few st.sizes.k each.1.1.1.0;
-    a-most = leb-true st.entries.a 1024 each.1.1.1.1.0;
-    b-most = leb-true st.entries.b 1024 each.1.1.1.1.1.0;
-    c-most = leb-true st.entries.c 1024 each.1.1.1.1.1.1.0;
-    pairs-most = leb-true st.pairs.count 64 each.1.1.1.1.1.1.1.1.0;
-  }
-
-  pub state-pairs-fit : st.fit ≡ true
-  state-pairs-fit = each.1.1.1.1.1.1.1.1.1.0
+pub state-pairs-fit : (st : State) → state_fits st ≡ true → st.fit ≡ true
+state-pairs-fit st fits = (each-true (leb st.sizes.m 6) (tests st) fits).1.1.1.1.1.1.1.1.1.0
 
 -- The buffers have the greatest lengths.
 pub buffer-lengths : (a b c items wits : List ℕ) → buffers_fit a b c items wits ≡ true → EntryLengths a b c × PairLengths items wits
@@ -80,29 +65,42 @@ buffer-lengths a b c items wits fits =
       },
     )
 
--- The greatest contents fit.
-module _ {m n k a b c pairs : ℕ} (bounds : CountBounds m n k a b c pairs) where
-  pub items-most : pairs * item_size m n ≤ 20224
-  items-most = mul-le-mul {n₂ = 64} {m₂ = 316} bounds.pairs-most (omega arith)
+-- So have arrays of their sizes.
+pub scratch-entries : EntryLengths (replicate 12288 0) (replicate 12288 0) (replicate 12288 0)
+scratch-entries = record { a-length = length-replicate {A = ℕ} 12288 0; b-length = length-replicate {A = ℕ} 12288 0; c-length = length-replicate {A = ℕ} 12288 0 }
 
-  pub wits-most : pairs * k ≤ 4096
-  wits-most = mul-le-mul {n₂ = 64} {m₂ = 64} bounds.pairs-most bounds.k-most
+pub scratch-pairs : PairLengths (replicate 20224 0) (replicate 16384 0)
+scratch-pairs = record { items-length = length-replicate {A = ℕ} 20224 0; wits-length = length-replicate {A = ℕ} 16384 0 }
 
 -- ---- refusals
 
--- A refusal has zeros, and says nothing of the lines.
-pub refusal-zeros : (x : ℕ) → 0 < x → record { answer = x; m = 0; n = 0; k = 0; a = 0; b = 0; c = 0; pairs = 0 } ≡ result_of x []
-refusal-zeros zero h = absurd (omega arith)
-refusal-zeros (suc x) h = refl
+-- Where there is no value, a call refuses with what stands for it.
+pub ok_or-none : {A : Type 0} {o : Option A} {x e : Refusal} → o ≡ None → Err e ≡ ok_or o x → e ≡ x
+ok_or-none {A} {o} {x} {e} none q = let told = q ∙ ap (λ (t : Option A). ok_or t x) none in cc
 
-refusal-lines : (x : ℕ) (ls : List Line) → 0 < x → result_of x [] ≡ result_of x ls
-refusal-lines zero ls h = absurd (omega arith)
-refusal-lines (suc x) ls h = refl
+-- A last check.
+pub last-tests : {b d : Bool} (x : Refusal) {r : Result Unit Refusal} → r ≡ cond b (Ok tt) (Err x) → b ≡ d → answer_of r ≡ answer_if d (number_of x) 0
+last-tests {b} {d} x q e = ap answer_of q ∙ (go b ∙ ap (λ (t : Bool). answer_if t (number_of x) 0) e)
+  where
+    go : (t : Bool) → answer_of (cond {A = Result Unit Refusal} t (Ok tt) (Err x)) ≡ answer_if t (number_of x) 0
+    go true = refl
+    go false = refl
+
+-- A refusal has zeros, and says nothing of the lines.
+refusal-zeros : (x : ℕ) (ls : List Line) → (x ≡ 0 → ⊥) → record { answer = x; m = 0; n = 0; k = 0; a = 0; b = 0; c = 0; pairs = 0 } ≡ result_of x ls
+refusal-zeros zero ls h = absurd (h refl)
+refusal-zeros (suc x) ls h = refl
 
 pub result-answer : (x : ℕ) (ls : List Line) → (result_of x ls).answer ≡ x
 result-answer zero ls = refl
 result-answer (suc x) ls = refl
 
--- A refusal with the answer x, which is the answer y that is defined.
-pub refused : {r : Reading} {x y : ℕ} (ls : List Line) → r ≡ result_of x [] → 0 < x → x ≡ y → r ≡ result_of y ls
-refused {r} {x} {y} ls e h i = e ∙ (refusal-lines x ls h ∙ ap (λ (t : ℕ). result_of t ls) i)
+-- A refusal by the check that gives the answer.
+pub refused : (refusal : Refusal) {y : ℕ} (ls : List Line) → number_of refusal ≡ y → outcome (Err refusal) ≡ result_of y ls
+refused refusal ls e = refusal-zeros (number_of refusal) ls (some-number refusal) ∙ ap (λ (t : ℕ). result_of t ls) e
+
+-- What an acceptance gives.
+pub accepted : (s : List ℕ) (r : Reading) {y : ℕ} → IsReadingOf s r → 0 ≡ y → outcome (Ok r) ≡ result_of y (sheet_lines s)
+accepted s r h z =
+    rw (h.counts.m-is, h.counts.n-is, h.counts.k-is, h.counts.a-is, h.counts.b-is, h.counts.c-is, h.counts.pairs-is)
+    (ap (λ (t : ℕ). result_of t (sheet_lines s)) z)

@@ -1,3 +1,3 @@
 pub mod SheetChecks
 pub mod CheckParts
-pub mod Bounds
+pub mod Counts

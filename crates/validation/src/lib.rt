@@ -2,95 +2,81 @@
 // circuit: the arrays for both do not stand on the stack at the same time. So a 13 of the pairs waits for the circuit's 3 and 4.
 #![tactic(auto)]
 
-ghost use Rattle.std.specs.Prelude.{◌≡◌, true};
+ghost use Rattle.std.specs.Prelude.{◌≡◌, MatchResult};
 ghost use Rattle.theory.specs.Checks.{answer};
+ghost use Rattle.checks.specs.Refusals.{number_of, answer_of};
 ghost use Rattle.scan.specs.Sheet.{sheet_lines};
-ghost use Rattle.validation.specs.SheetChecks.{keeps_rules, counts_fit, sheet_checks, result_of};
-ghost use Rattle.validation.specs.CheckParts.{pair_checks, circuit_checks};
-ghost use Rattle.validation.specs.Bounds.{EntryLengths, PairLengths};
+ghost use Rattle.validation.specs.SheetChecks.{sheet_checks, result_of, outcome};
+ghost use Rattle.validation.specs.CheckParts.{first_checks, entry_checks, IsPairs, IsReadingOf};
 
 mod contents;
 pub mod reading;
 
 use crate::reading::Reading;
-use scan::order;
+use checks::refusal::{Refusal, ensure};
+use checks::{elements, leading, order};
+use lines::keyword::Keyword;
+use r1cs::circuit::Circuit;
 
-// Checks 1 and 2, and checks 3 and 13 of the pairs, which are read into `items` and `wits`. `lengths` is what check 2 says of the call's buffers.
-fn pairs_verdict_in(
-    sheet: &[u8],
-    a: &mut [u8],
-    b: &mut [u8],
-    c: &mut [u8],
-    items: &mut [u8],
-    wits: &mut [u8],
-    lengths: bool,
-) -> Reading
-    requires { PairLengths items.old wits.old }
-    ensures { result ≡ result_of (answer (pair_checks sheet.now lengths)) (sheet_lines sheet.now) }
-{
-    if sheet.len() > 60000 {
-        return reading::refused(1);
-    }
-    let st = scan::scan(sheet, a, b, c, items, wits);
-    let last = st.last;
-    if !order::is_end(last) {
-        return reading::refused(1);
-    }
-    if !(contents::counts_fit(st) & lengths) {
-        return reading::refused(2);
-    }
-    let answer = contents::pairs_answer(st, items, wits);
-    if answer != 0 {
-        return reading::refused(answer);
-    }
-    reading::accepted(st)
+// A sheet that passes checks 1 and 2, and check 3 of its pairs; and whether their first inputs are 1.
+#[derive(Clone, Copy)]
+struct Pairs {
+    reading: Reading,
+    leading_one: bool,
 }
 
-// The same with arrays of its own.
-fn pairs_verdict(sheet: &[u8], lengths: bool) -> Reading
-    ensures { result ≡ result_of (answer (pair_checks sheet.now lengths)) (sheet_lines sheet.now) }
+// Checks 1 and 2, and check 3 of the pairs. `lengths` is what check 2 says of the call's buffers.
+fn pairs_verdict(sheet: &[u8], lengths: bool) -> Result<Pairs, Refusal>
+    ensures { MatchResult result (λ r. IsPairs sheet.now lengths r) (λ refusal. number_of refusal ≡ answer (first_checks sheet.now lengths)) }
 {
-    let mut a: [u8; 0] = [];
-    let mut b: [u8; 0] = [];
-    let mut c: [u8; 0] = [];
+    ensure(sheet.len() <= 60000, Refusal::Lines)?;
     let mut items = [0u8; 20224];
     let mut wits = [0u8; 16384];
-    pairs_verdict_in(
-        sheet, &mut a, &mut b, &mut c, &mut items, &mut wits, lengths,
-    )
+    let st = scan::scan(sheet, &mut [], &mut [], &mut [], &mut items, &mut wits);
+    ensure(st.last == Some(Keyword::End), Refusal::Lines)?;
+    ensure(lengths, Refusal::Sizes)?;
+    let reading = contents::reading(st).ok_or(Refusal::Sizes)?;
+    let items = &items[..4 * st.pairs.items];
+    let wits = &wits[..4 * st.pairs.wits];
+    let below = elements::items_below(reading.sizes, items) & elements::elements_below(wits);
+    ensure(below, Refusal::Numbers)?;
+    let leading_one = leading::items_leading_one(reading.sizes, items);
+    Ok(Pairs {
+        reading,
+        leading_one,
+    })
 }
 
-// Checks 3 and 4 of the circuit, which is read into the buffers, after checks 1 and 2.
-fn circuit_verdict_in(sheet: &[u8], a: &mut [u8], b: &mut [u8], c: &mut [u8]) -> u32
-    requires { (keeps_rules sheet.now ≡ true) × (counts_fit (sheet_lines sheet.now) ≡ true) × EntryLengths a.old b.old c.old }
-    ensures { result ≡ answer (circuit_checks (sheet_lines sheet.now)) }
-{
-    let st = scan::scan_entries(sheet, a, b, c);
-    contents::circuit_answer(st, a, b, c)
-}
-
-// The same with arrays of its own.
-fn circuit_verdict(sheet: &[u8]) -> u32
-    requires { (keeps_rules sheet.now ≡ true) × (counts_fit (sheet_lines sheet.now) ≡ true) }
-    ensures { result ≡ answer (circuit_checks (sheet_lines sheet.now)) }
+// Checks 3 and 4 of the circuit.
+fn circuit_verdict(sheet: &[u8], reading: Reading) -> Result<(), Refusal>
+    requires { IsReadingOf sheet.now reading }
+    ensures { answer_of result ≡ answer (entry_checks (sheet_lines sheet.now)) }
 {
     let mut a = [0u8; 12288];
     let mut b = [0u8; 12288];
     let mut c = [0u8; 12288];
-    circuit_verdict_in(sheet, &mut a, &mut b, &mut c)
+    scan::scan_entries(sheet, &mut a, &mut b, &mut c);
+    let circuit = Circuit {
+        a: &a[..12 * reading.a],
+        b: &b[..12 * reading.b],
+        c: &c[..12 * reading.c],
+    };
+    ensure(elements::circuit_below(&circuit), Refusal::Numbers)?;
+    ensure(
+        order::circuit_in_order(reading.sizes, &circuit),
+        Refusal::Entries,
+    )
 }
 
 // The checks in their order. `lengths` is what check 2 says of the call's buffers.
-pub fn verdict(sheet: &[u8], lengths: bool) -> Reading
-    ensures { result ≡ result_of (answer (sheet_checks sheet.now lengths)) (sheet_lines sheet.now) }
+pub fn verdict(sheet: &[u8], lengths: bool) -> Result<Reading, Refusal>
+    ensures { outcome result ≡ result_of (answer (sheet_checks sheet.now lengths)) (sheet_lines sheet.now) }
 {
-    let r = pairs_verdict(sheet, lengths);
-    if !((r.answer == 0) | (r.answer == 13)) {
-        return r;
-    }
-    let circuit = circuit_verdict(sheet);
-    if circuit != 0 {
-        return reading::refused(circuit);
-    }
-    r
+    let Pairs {
+        reading,
+        leading_one,
+    } = pairs_verdict(sheet, lengths)?;
+    circuit_verdict(sheet, reading)?;
+    ensure(leading_one, Refusal::LeadingOne)?;
+    Ok(reading)
 }

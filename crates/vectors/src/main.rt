@@ -3,28 +3,24 @@
 #![tactic(auto)]
 
 use hash::Hashed;
-use std::io;
+use std::{fmt, io};
 
-// Prints the 32 bytes of a digest in hexadecimal.
-fn show_hex(rt: &HostRuntime, d: [u8; 32]) -> io::Result<()> {
-    for byte in &d {
-        print!(rt; "{byte:02x}")?;
+// A digest in hexadecimal.
+#[derive(Clone, Copy)]
+struct Hex<'a>(&'a [u8; 32]);
+
+impl fmt::Display for Hex<'_> {
+    fn fmt<W: fmt::Write>(&self, f: &mut fmt::Formatter<W>) -> fmt::Result {
+        for byte in self.0 {
+            write!(f, "{byte:02x}")?;
+        }
+        Ok(())
     }
-    Ok(())
 }
 
-// Prints a name, a digest and a line end.
-fn show_digest(rt: &HostRuntime, name: &str, d: [u8; 32]) -> io::Result<()> {
-    print!(rt; "{name} ")?;
-    show_hex(rt, d)?;
-    println!(rt)
-}
-
-// Prints a name, the digest of a message and, after a space, its number of blocks, and a line end.
+// Prints a name, the digest of a message and its number of blocks.
 fn show_hashed(rt: &HostRuntime, name: &str, h: Hashed) -> io::Result<()> {
-    print!(rt; "{name} ")?;
-    show_hex(rt, h.digest)?;
-    println!(rt; " {}", h.blocks)
+    println!(rt; "{name} {} {}", Hex(&h.digest), h.blocks)
 }
 
 // Prints a name, numbers with a space before each, and a line end.
@@ -46,13 +42,11 @@ fn main(rt: HostRuntime) -> io::Result<()> {
     )?;
     let left = hash::leaf([0, 0, 0, 0], &[1, 0, 0, 0]);
     let right = hash::leaf([1, 0, 0, 0], &[2, 0, 0, 0]);
-    let l = left.digest;
-    let r = right.digest;
     show_hashed(&rt, "leaf 1 at 0", left)?;
     show_hashed(&rt, "leaf 2 at 1", right)?;
-    show_hashed(&rt, "node of both", hash::node(l, r))?;
+    show_hashed(&rt, "node of both", hash::node(left.digest, right.digest))?;
     let values = [5u32, 2013265920, 0, 1, 2, 3, 4, 4294967295];
-    show_digest(&rt, "root of 8", tree::root(&values, 3))?;
+    println!(rt; "root of 8 {}", Hex(&tree::root(&values, 3)))?;
     show_numbers(
         &rt,
         "field",
@@ -61,7 +55,7 @@ fn main(rt: HostRuntime) -> io::Result<()> {
             field::sub(0, 1),
             field::mul(2013265920, 2013265920),
             field::pow(31, 2013265920),
-            field::inverse_of(2),
+            field::Inverses::new().of(2),
         ],
     )?;
     let mut code = [0u32; 8];

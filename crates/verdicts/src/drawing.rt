@@ -1,6 +1,9 @@
 // The three calls that draw by hash.
 ghost use Rattle.std.specs.Prelude.{◌≡◌};
+ghost use Rattle.checks.specs.Refusals.{answer_of};
 ghost use Rattle.draw.specs.Draw.{draw_challenge, draw_positions, draw_r};
+
+use checks::refusal::Refusal;
 
 // Writes the seed of items and quotient, and the challenge drawn from it. Checks 2, 3 and 13.
 pub fn lomvuze_draw_challenge(
@@ -12,8 +15,8 @@ pub fn lomvuze_draw_challenge(
     quotient: &[u8],
     seed: &mut [u8],
     challenge: &mut [u8],
-) -> u32
-    ensures answer { result ≡ (draw_challenge m n k l items.now quotient.now seed.old challenge.old).answer }
+) -> Result<(), Refusal>
+    ensures answer { answer_of result ≡ (draw_challenge m n k l items.now quotient.now seed.old challenge.old).answer }
     ensures seed { seed.new ≡ (draw_challenge m n k l items.now quotient.now seed.old challenge.old).seed }
     ensures challenge { challenge.new ≡ (draw_challenge m n k l items.now quotient.now seed.old challenge.old).challenge }
 {
@@ -29,16 +32,16 @@ pub fn lomvuze_draw_positions(
     seed: &[u8],
     root: &[u8],
     positions: &mut [u8],
-) -> u32
-    ensures answer { result ≡ (draw_positions k l t challenge seed.now root.now positions.old).answer }
+) -> Result<(), Refusal>
+    ensures answer { answer_of result ≡ (draw_positions k l t challenge seed.now root.now positions.old).answer }
     ensures positions { positions.new ≡ (draw_positions k l t challenge seed.now root.now positions.old).positions }
 {
     draw::positions::draw_positions(k, l, t, challenge, seed, root, positions)
 }
 
 // Writes r for casting, drawn from root and x. Checks 2, 3 and 13.
-pub fn lomvuze_draw_r(m: u32, n: u32, root: &[u8], x: &[u8], r: &mut [u8]) -> u32
-    ensures answer { result ≡ (draw_r m n root.now x.now r.old).answer }
+pub fn lomvuze_draw_r(m: u32, n: u32, root: &[u8], x: &[u8], r: &mut [u8]) -> Result<(), Refusal>
+    ensures answer { answer_of result ≡ (draw_r m n root.now x.now r.old).answer }
     ensures r { r.new ≡ (draw_r m n root.now x.now r.old).r }
 {
     draw::r::draw_r(m, n, root, x, r)

@@ -3,6 +3,8 @@
 ghost use Rattle.std.specs.Prelude.{◌≡◌};
 ghost use Rattle.draw.specs.Draw.{draw_challenge, draw_positions, draw_r};
 
+use checks::refusal::answer;
+
 // Writes the seed of items and quotient, and the challenge drawn from it. Checks 2, 3 and 13.
 #[unsafe(no_mangle)]
 pub extern "C" fn lomvuze_draw_challenge(
@@ -19,7 +21,7 @@ pub extern "C" fn lomvuze_draw_challenge(
     ensures seed { seed.new ≡ (draw_challenge m n k l items.now quotient.now seed.old challenge.old).seed }
     ensures challenge { challenge.new ≡ (draw_challenge m n k l items.now quotient.now seed.old challenge.old).challenge }
 {
-    verdicts::drawing::lomvuze_draw_challenge(m, n, k, l, items, quotient, seed, challenge)
+    answer(verdicts::drawing::lomvuze_draw_challenge(m, n, k, l, items, quotient, seed, challenge))
 }
 
 // Writes t positions, drawn from seed, challenge and the root of the new item. Checks 2 and 5.
@@ -36,7 +38,7 @@ pub extern "C" fn lomvuze_draw_positions(
     ensures answer { result ≡ (draw_positions k l t challenge seed.now root.now positions.old).answer }
     ensures positions { positions.new ≡ (draw_positions k l t challenge seed.now root.now positions.old).positions }
 {
-    verdicts::drawing::lomvuze_draw_positions(k, l, t, challenge, seed, root, positions)
+    answer(verdicts::drawing::lomvuze_draw_positions(k, l, t, challenge, seed, root, positions))
 }
 
 // Writes r for casting, drawn from root and x. Checks 2, 3 and 13.
@@ -45,5 +47,5 @@ pub extern "C" fn lomvuze_draw_r(m: u32, n: u32, root: &[u8], x: &[u8], r: &mut 
     ensures answer { result ≡ (draw_r m n root.now x.now r.old).answer }
     ensures r { r.new ≡ (draw_r m n root.now x.now r.old).r }
 {
-    verdicts::drawing::lomvuze_draw_r(m, n, root, x, r)
+    answer(verdicts::drawing::lomvuze_draw_r(m, n, root, x, r))
 }

@@ -1,4 +1,4 @@
-// What C calls: each export calls the function of the same name in verdicts, whose clauses it has.
+// What C calls: each export calls the function of the same name in verdicts, and gives its verdict as a number, 0 where nothing is refused.
 #![tactic(auto)]
 
 ghost use Rattle.std.specs.Prelude.{◌≡◌};
@@ -8,6 +8,8 @@ ghost use Rattle.theory.specs.Fp.{encode, cast, quotient, fold, «open», interl
 ghost use Rattle.sheet.specs.Reading.{read_sheet, sizes_of};
 
 pub mod drawing;
+
+use checks::refusal::answer;
 
 // Writes the codeword of a witness and its root. Checks 2, 3 and 12.
 #[unsafe(no_mangle)]
@@ -22,7 +24,7 @@ pub extern "C" fn lomvuze_encode(
     ensures code { code.new ≡ (encode k points.now w.now code.old root.old).code }
     ensures root { root.new ≡ (encode k points.now w.now code.old root.old).root }
 {
-    verdicts::lomvuze_encode(k, points, w, code, root)
+    answer(verdicts::lomvuze_encode(k, points, w, code, root))
 }
 
 // Writes the item of an instance: r as lent, e 0, the root of the witness. Checks 2, 3, 12, 4, 13 and 11.
@@ -43,7 +45,7 @@ pub extern "C" fn lomvuze_cast(
     ensures answer { result ≡ (cast m n k points.now a.now b.now c.now r.now x.now w.now item.old).answer }
     ensures item { item.new ≡ (cast m n k points.now a.now b.now c.now r.now x.now w.now item.old).item }
 {
-    verdicts::lomvuze_cast(m, n, k, points, a, b, c, r, x, w, item)
+    answer(verdicts::lomvuze_cast(m, n, k, points, a, b, c, r, x, w, item))
 }
 
 // Writes the quotient of a list of items with their witnesses. Checks 2, 3, 12, 4, 13, 10 and 11.
@@ -64,7 +66,7 @@ pub extern "C" fn lomvuze_quotient(
     ensures answer { result ≡ (quotient m n k l points.now a.now b.now c.now items.now wits.now out.old).answer }
     ensures quotient { out.new ≡ (quotient m n k l points.now a.now b.now c.now items.now wits.now out.old).quotient }
 {
-    verdicts::lomvuze_quotient(m, n, k, l, points, a, b, c, items, wits, out)
+    answer(verdicts::lomvuze_quotient(m, n, k, l, points, a, b, c, items, wits, out))
 }
 
 // Writes the quotient, the new item and the new witness at a challenge. Checks 2, 3, 12, 4, 13, 5, 10 and 11.
@@ -90,9 +92,9 @@ pub extern "C" fn lomvuze_fold(
     ensures item { item.new ≡ (fold m n k l challenge points.now a.now b.now c.now items.now wits.now quotient.old item.old wit.old).item }
     ensures wit { wit.new ≡ (fold m n k l challenge points.now a.now b.now c.now items.now wits.now quotient.old item.old wit.old).wit }
 {
-    verdicts::lomvuze_fold(
+    answer(verdicts::lomvuze_fold(
         m, n, k, l, challenge, points, a, b, c, items, wits, quotient, item, wit,
-    )
+    ))
 }
 
 // Writes the openings of a witness at a list of positions. Checks 2, 3, 12 and 6.
@@ -108,7 +110,7 @@ pub extern "C" fn lomvuze_open(
     ensures answer { result ≡ («open» k t points.now w.now positions.now openings.old).answer }
     ensures openings { openings.new ≡ («open» k t points.now w.now positions.now openings.old).openings }
 {
-    verdicts::lomvuze_open(k, t, points, w, positions, openings)
+    answer(verdicts::lomvuze_open(k, t, points, w, positions, openings))
 }
 
 // Writes the openings of l + 1 witnesses, the new one's last, in the order in which lomvuze_verify reads them. Check 2.
@@ -123,7 +125,7 @@ pub extern "C" fn lomvuze_interleave(
     ensures answer { result ≡ (interleave k l t opened.now openings.old).answer }
     ensures openings { openings.new ≡ (interleave k l t opened.now openings.old).openings }
 {
-    verdicts::lomvuze_interleave(k, l, t, opened, openings)
+    answer(verdicts::lomvuze_interleave(k, l, t, opened, openings))
 }
 
 // Verifies a fold, and returns 64 times the number of SHA-256 blocks that were processed, plus the verdict. Checks 2, 3, 13 and 5 to 9.
@@ -143,9 +145,10 @@ pub extern "C" fn lomvuze_verify(
 ) -> u64
     ensures { result ≡ packed (verify m n k l t challenge items.now positions.now quotient.now item.now openings.now) }
 {
-    verdicts::lomvuze_verify(
+    let verified = verdicts::lomvuze_verify(
         m, n, k, l, t, challenge, items, positions, quotient, item, openings,
-    )
+    );
+    64 * verified.blocks + answer(verified.verdict) as u64
 }
 
 // Decides an item with its witness. Checks 2, 3, 12, 4, 13, 10 and 11.
@@ -163,7 +166,7 @@ pub extern "C" fn lomvuze_decide(
 ) -> u32
     ensures { result ≡ decide m n k points.now a.now b.now c.now item.now wit.now }
 {
-    verdicts::lomvuze_decide(m, n, k, points, a, b, c, item, wit)
+    answer(verdicts::lomvuze_decide(m, n, k, points, a, b, c, item, wit))
 }
 
 // Reads a sheet into buffers of the greatest lengths; sizes gets m, n, k, the entries of A, B and C, and the count of pairs. Checks 1 to 4 and 13.
@@ -185,5 +188,5 @@ pub extern "C" fn lomvuze_read_sheet(
     ensures items { items.new ≡ (read_sheet sheet.now a.old b.old c.old items.old wits.old).items }
     ensures wits { wits.new ≡ (read_sheet sheet.now a.old b.old c.old items.old wits.old).wits }
 {
-    verdicts::lomvuze_read_sheet(sheet, a, b, c, items, wits, sizes)
+    answer(verdicts::lomvuze_read_sheet(sheet, a, b, c, items, wits, sizes))
 }

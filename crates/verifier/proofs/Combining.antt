@@ -22,8 +22,10 @@ use Rattle.theory.specs.Items.{Item}
 use Rattle.theory.specs.Combination.{new_e, new_r, new_x, quotient_size}
 use Rattle.theory.specs.Buffers.{number_at}
 use Rattle.theory.specs.Sizes.{elements_below}
-use Rattle.theory.specs.Fp.{fp, element_at, elements, read_item, read_items, item_below, same_element, same_elements, read_shown, combines}
+use Rattle.theory.specs.Fp.{fp, element_at, elements, read_item, read_items, item_below, same_element, same_elements, combines}
 use Rattle.theory.proofs.CheckLaws.{every_true, true-every}
+use Rattle.verifier.specs.declared.shown.Fold.{Fold}
+use Rattle.verifier.specs.Verifying.{batch, coefficients, shown}
 use Rattle.theory.proofs.Equality.{same-element, same-elements, equal-element, equal-elements}
 
 -- ---- the quotient's elements
@@ -112,21 +114,24 @@ module _ (m n : ℕ) (item : List ℕ) (e : F) (r x : List F) (hr : length r ≡
 
 -- ---- check 7
 
-pub combines-is : (m n l challenge : ℕ) (items quotient item : List ℕ) {coefficients expected : List ℕ} {r : Bool}
-    → length quotient ≡ 4 * quotient_size m l → item_below m n item ≡ true → coefficients ≡ numbers quotient
-    → expected ≡ map val (new_e baby_bear (read_items m n l items) (map ofℕ coefficients) (ofℕ challenge)
-    ∷ new_r baby_bear m (read_items m n l items) (ofℕ challenge) ++ new_x baby_bear n (read_items m n l items) (ofℕ challenge))
-    → r ≡ every (length expected) (λ j. eqb (number_at item j) (get_or expected j 0))
-    → (k t : ℕ) (positions openings : List ℕ)
-    → r ≡ combines m n (read_items m n l items) (elements (quotient_size m l) quotient) (read_shown m n k l t challenge positions item openings)
-combines-is m n l challenge items quotient item {coefficients} {expected} size inside ec ee er k t positions openings =
-    numbers-same m n item (new_e baby_bear batch (elements (quotient_size m l) quotient) a) (new_r baby_bear m batch a) (new_x baby_bear n batch a)
-    (length-build m _) (length-build n _) inside expected
-    (ee ∙ ap (λ (q : List F). map val (new_e baby_bear batch q a ∷ new_r baby_bear m batch a ++ new_x baby_bear n batch a)) (quotient-elements (quotient_size m l) quotient size ec))
+-- The weights are those of `count` items.
+pub combines-is : (f : Fold) (challenge : ℕ) {count : ℕ} {quotient expected : List ℕ} {r : Bool}
+    → count ≡ f.l → item_below f.sizes.m f.sizes.n f.item.now ≡ true → quotient ≡ numbers f.quotient.now
+    → expected ≡ map val (new_e baby_bear (read_items f.sizes.m f.sizes.n count f.items.now) (map ofℕ quotient) (ofℕ challenge)
+    ∷ new_r baby_bear f.sizes.m (read_items f.sizes.m f.sizes.n count f.items.now) (ofℕ challenge) ++ new_x baby_bear f.sizes.n (read_items f.sizes.m f.sizes.n count f.items.now) (ofℕ challenge))
+    → r ≡ every (length expected) (λ j. eqb (number_at f.item.now j) (get_or expected j 0))
+    → r ≡ combines f.sizes.m f.sizes.n (batch f) (coefficients f) (shown f challenge)
+combines-is f challenge {count} {quotient} {expected} el inside eq ee er =
+    numbers-same f.sizes.m f.sizes.n f.item.now (new_e baby_bear (batch f) (coefficients f) a) (new_r baby_bear f.sizes.m (batch f) a) (new_x baby_bear f.sizes.n (batch f) a)
+    (length-build f.sizes.m _) (length-build f.sizes.n _) inside expected
+    (ee
+    ∙ ap (λ (l : ℕ). wanted (read_items f.sizes.m f.sizes.n l f.items.now) (map ofℕ quotient)) el
+    ∙ ap (wanted (batch f)) (quotient-elements (quotient_size f.sizes.m f.l) f.quotient.now f.quotient_length eq))
     er
   where
-    batch : List (Item F)
-    batch = read_items m n l items
-
     a : F
     a = ofℕ challenge
+
+    -- The numbers of e, r and x.
+    wanted : List (Item F) → List F → List ℕ
+    wanted items q = map val (new_e baby_bear items q a ∷ new_r baby_bear f.sizes.m items a ++ new_x baby_bear f.sizes.n items a)

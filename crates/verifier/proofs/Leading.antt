@@ -1,8 +1,8 @@
 -- Checks 8 and 9, on the buffers as they lie and on what they are read as.
-use mathlib.Core.Path.{◌≡◌, sym, ap, ap₂, ◌∙◌}
+use mathlib.Core.Path.{◌≡◌, refl, sym, ap, ap₂, ◌∙◌}
 use mathlib.Core.Bool.{Bool, true}
 use mathlib.Core.List.{List}
-use Prim.Native.Nat.{ℕ, suc, ◌+◌, ◌*◌, ◌<◌}
+use Prim.Native.Nat.{ℕ, suc, ◌+◌, ◌*◌, ◌/◌, ◌<◌}
 use native.Mathlib.Nat.{add-mul}
 use native.Mathlib.Omega.{arith}
 use borrow.Author.Tests.{ltb-true}
@@ -16,143 +16,118 @@ use Rattle.field.proofs.Laws.{val-small}
 use Rattle.hash.specs.Sha256.{block_count, digest}
 use Rattle.tree.specs.Merkle.{blocks_of, opening_root, opening_strings}
 use Rattle.tree.specs.Entry.{entry}
-use Rattle.tree.specs.Layout.{opening_size, opened_value, opened_path, opened_root, opened_strings}
+use Rattle.tree.specs.Layout.{opening_size, opened_value, opened_path}
 use Rattle.code.specs.Points.{depth}
 use Rattle.theory.specs.Items.{Item}
 use Rattle.theory.specs.Combination.{mix}
-use Rattle.theory.specs.Folds.{Opening, Shown, position_count, value_at, item_of, opening_strings_of}
+use Rattle.theory.specs.Folds.{Opening, Shown, position_count, opening_at, value_at, item_of, opening_strings_of}
 use Rattle.theory.specs.Checks.{every, reached}
-use Rattle.theory.specs.Buffers.{number_at}
+use Rattle.theory.specs.Buffers.{number_at, read_opening}
 use Rattle.theory.specs.Verify.{leads as leads_of, reached_strings}
-use Rattle.theory.specs.Fp.{fp, sha, element_at, item_front, item_size, read_items, opened_below, same_element, read_shown, openings_lead, values_combine}
+use Rattle.theory.specs.Fp.{fp, sha, element_at, opened_below, same_element, openings_lead, values_combine}
 use Rattle.theory.proofs.CheckLaws.{every_true, every-cong}
 use Rattle.theory.proofs.Reached.{reached-cong}
 use Rattle.theory.proofs.Reading.{length-read_items, opening_at-read_shown, row_within}
 use Rattle.fold.specs.Weights.{lagrange_at, weighted}
-use Rattle.fold.proofs.Mixing.{length-weights, weighted-mix}
-use Rattle.verifier.specs.Verifying.{root_at, leads, strings_at, strings_reached, value_combines}
+use Rattle.fold.proofs.Mixing.{weighted-mix}
+use Rattle.verifier.specs.declared.shown.Fold.{Fold}
+use Rattle.verifier.specs.Verifying.{batch, shown, place, leads, strings_at, strings_reached, stride, value_combines}
 use Rattle.verifier.proofs.Tests.{same_number}
-use Rattle.verifier.proofs.Places.{root-read, opening-within, value-number, last-place}
+use Rattle.verifier.proofs.Places.{root-read, opening-within, layout, stride-is, first-is, last-place, value-number}
 
--- The weights in a scratch list that was w₀.
-pub weights-are : (l challenge : ℕ) (w₀ : List ℕ) {weights : List ℕ} → length w₀ ≡ l → weights ≡ lagrange_at (length w₀) challenge → weights ≡ lagrange_at l challenge
-weights-are l challenge w₀ h e = e ∙ ap (λ (s : ℕ). lagrange_at s challenge) h
+-- What is tested of the openings of one position.
+pub combines-is : (f : Fold) (challenge q : ℕ) {weights : List ℕ} {size x y : ℕ} → weights ≡ lagrange_at f.l challenge → size ≡ opening_size (depth f.sizes.k)
+    → x ≡ number_at f.openings.now (q * (f.l + 1) * (size / 4) + f.l * (size / 4))
+    → y ≡ val (weighted weights f.openings.now (size / 4) (q * (f.l + 1) * (size / 4)))
+    → eqb x y ≡ value_combines (lagrange_at f.l challenge) f q
+combines-is f challenge q ew es ex ey =
+    let place = last-place f q es in
+    let first = first-is f q es in
+    let stride = stride-is f es in
+    cc
 
--- What is tested of one opening, what is hashed for it, and what is tested of the openings of one position.
-pub leads-is : (size front opening l depth : ℕ) (items positions item openings : List ℕ) (q i : ℕ) {at position : ℕ} {r : Bool}
-    → at ≡ (q * suc l + i) * opening → position ≡ number_at positions q
-    → r ≡ same_bytes (opened_root digest openings at depth position) (root_at size front l items item i)
-    → r ≡ leads size front opening l depth items positions item openings q i
-leads-is size front opening l depth items positions item openings q i ea ep e =
-    e ∙ ap₂ (λ (a b : ℕ). same_bytes (opened_root digest openings a depth b) (root_at size front l items item i)) ea ep
+module _ (f : Fold) (challenge : ℕ) (below : opened_below (depth f.sizes.k) (f.t * suc f.l) f.openings.now ≡ true) where
+  abbrev items : List (Item F)
+  items = batch f
 
-pub strings-is : (opening l depth : ℕ) (positions openings : List ℕ) (q i : ℕ) {at position r : ℕ} → at ≡ (q * suc l + i) * opening → position ≡ number_at positions q
-    → r ≡ blocks_of block_count (opened_strings digest openings at depth position) → r ≡ blocks_of block_count (strings_at opening l depth positions openings q i)
-strings-is opening l depth positions openings q i ea ep e = e ∙ ap₂ (λ (a b : ℕ). blocks_of block_count (opened_strings digest openings a depth b)) ea ep
+  abbrev folded : Shown F
+  folded = shown f challenge
 
-pub combines-is : (weights : List ℕ) (stride : ℕ) (openings : List ℕ) (q : ℕ) {first x y : ℕ} → first ≡ q * suc (length weights) * stride
-    → x ≡ number_at openings (first + length weights * stride) → y ≡ val (weighted weights openings stride first)
-    → eqb x y ≡ value_combines weights stride openings q
-combines-is weights stride openings q e ex ey =
-    ap₂ eqb (ex ∙ ap (number_at openings) (last-place (length weights) stride q e)) (ey ∙ ap (λ (j : ℕ). val (weighted weights openings stride j)) e)
+  position-count : position_count folded ≡ f.t
+  position-count = length-numbers f.t f.positions.now f.positions_length
 
-module _ (m n k l t challenge : ℕ) (items positions item openings : List ℕ)
-    (positions-size : length positions ≡ 4 * t) (openings-size : length openings ≡ t * suc l * opening_size (depth k))
-    (below : opened_below (depth k) (t * suc l) openings ≡ true) where
-  abbrev batch : List (Item F)
-  batch = read_items m n l items
+  item_count : length items ≡ f.l
+  item_count = length-read_items fp f.sizes.m f.sizes.n f.l f.items.now
 
-  abbrev shown : Shown F
-  shown = read_shown m n k l t challenge positions item openings
+  module _ (q i : ℕ) (g : q < f.t) (h : i < suc f.l) where
+    opening-is : opening_at baby_bear items folded q i ≡ read_opening fp (depth f.sizes.k) f.openings.now (q * suc f.l + i)
+    opening-is = opening_at-read_shown fp f.sizes.m f.sizes.n f.sizes.k f.l f.t challenge f.items.now f.positions.now f.item.now f.openings.now q i g h
 
-  position-count : position_count shown ≡ t
-  position-count = length-numbers t positions positions-size
-
-  item_count : length batch ≡ l
-  item_count = length-read_items fp m n l items
-
-  module _ (q i : ℕ) (g : q < t) (h : i < suc l) where
-    abbrev place : ℕ
-    place = (q * suc l + i) * opening_size (depth k)
-
-    value-below : opened_value openings place < p
-    value-below = ltb-true (opened_value openings place) p (every_true (t * suc l) _ below (q * suc l + i) (row_within q t i (suc l) g h))
+    value-below : opened_value f.openings.now (place f q i) < p
+    value-below = ltb-true (opened_value f.openings.now (place f q i)) p (every_true (f.t * suc f.l) _ below (q * suc f.l + i) (row_within q f.t i (suc f.l) g h))
 
     -- Where an opening leads.
-    leads-same : leads_of fp batch shown q i
-        ≡ leads (item_size m n) (item_front m n) (opening_size (depth k)) l (depth k) items positions item openings q i
+    leads-same : leads_of fp items folded q i ≡ leads f q i
     unfolding item_of
     leads-same = ap₂ same_bytes
-        (ap (λ (o : Opening F). opening_root digest (entry (number_at positions q) (bytes4 (val o.value))) (number_at positions q) o.siblings) (opening_at-read_shown fp m n k l t challenge items positions item openings q i g h)
-        ∙ ap (λ (v : ℕ). opening_root digest (entry (number_at positions q) (bytes4 v)) (number_at positions q) (opened_path openings place (depth k))) (val-small value-below))
-        (root-read m n l items item i h)
+        (ap (λ (o : Opening F). opening_root digest (entry (number_at f.positions.now q) (bytes4 (val o.value))) (number_at f.positions.now q) o.siblings) opening-is
+        ∙ ap (λ (v : ℕ). opening_root digest (entry (number_at f.positions.now q) (bytes4 v)) (number_at f.positions.now q) (opened_path f.openings.now (place f q i) (depth f.sizes.k))) (val-small value-below))
+        (root-read f i h)
 
     -- The strings hashed for it.
-    strings-same : opening_strings_of baby_bear batch sha shown q i ≡ strings_at (opening_size (depth k)) l (depth k) positions openings q i
+    strings-same : opening_strings_of baby_bear items sha folded q i ≡ strings_at f q i
     strings-same =
-        ap (λ (o : Opening F). opening_strings digest (entry (number_at positions q) (bytes4 (val o.value))) (number_at positions q) o.siblings) (opening_at-read_shown fp m n k l t challenge items positions item openings q i g h)
-        ∙ ap (λ (v : ℕ). opening_strings digest (entry (number_at positions q) (bytes4 v)) (number_at positions q) (opened_path openings place (depth k))) (val-small value-below)
+        ap (λ (o : Opening F). opening_strings digest (entry (number_at f.positions.now q) (bytes4 (val o.value))) (number_at f.positions.now q) o.siblings) opening-is
+        ∙ ap (λ (v : ℕ). opening_strings digest (entry (number_at f.positions.now q) (bytes4 v)) (number_at f.positions.now q) (opened_path f.openings.now (place f q i) (depth f.sizes.k))) (val-small value-below)
 
     -- The opened value, as a number of the buffer.
-    module _ (stride : ℕ) (layout : 4 * stride ≡ opening_size (depth k)) where
-      abbrev number : ℕ
-      number = number_at openings ((q * suc l + i) * stride)
+    abbrev number : ℕ
+    number = number_at f.openings.now ((q * suc f.l + i) * stride f)
 
-      value_same : opened_value openings place ≡ number
-      value_same =
-          let start : place ≡ (q * suc l + i) * (4 * stride) = ap (λ (s : ℕ). (q * suc l + i) * s) (sym layout) in
-          ap (opened_value openings) start
-          ∙ value-number openings (q * suc l + i) stride (omega (arith, start, opening-within l (opening_size (depth k)) t q i (length openings) g h openings-size))
+    value_same : opened_value f.openings.now (place f q i) ≡ number
+    value_same =
+        let start : place f q i ≡ (q * suc f.l + i) * (4 * stride f) = ap (λ (s : ℕ). (q * suc f.l + i) * s) (sym (layout f)) in
+        ap (opened_value f.openings.now) start
+        ∙ value-number f.openings.now (q * suc f.l + i) (stride f) (omega (arith, start, opening-within f q i g h))
 
-      value-is : value_at baby_bear batch shown q i ≡ ofℕ number
-      value-is = ap (λ (o : Opening F). o.value) (opening_at-read_shown fp m n k l t challenge items positions item openings q i g h) ∙ ap ofℕ value_same
+    value-is : value_at baby_bear items folded q i ≡ ofℕ number
+    value-is = ap (λ (o : Opening F). o.value) opening-is ∙ ap ofℕ value_same
 
-      number-below : number < p
-      number-below = rw value_same at value-below
+    number-below : number < p
+    number-below = rw value_same at value-below
 
-  all-lead : every t (λ q. every (suc l) (leads (item_size m n) (item_front m n) (opening_size (depth k)) l (depth k) items positions item openings q)) ≡ openings_lead batch shown
-  all-lead = sym (ap₂ (λ (a b : ℕ). every a (λ q. every (suc b) (leads_of fp batch shown q))) position-count item_count
-      ∙ every-cong t _ _ (λ q g. every-cong (suc l) _ _ (λ i h. leads-same q i g h)))
-
-  pub openings-lead : {size front opening d : ℕ} {r : Bool} → size ≡ item_size m n → front ≡ item_front m n → opening ≡ opening_size d → d ≡ depth k
-      → r ≡ every t (λ q. every (suc l) (leads size front opening l d items positions item openings q)) → r ≡ openings_lead batch shown
-  openings-lead {size} {front} {opening} {d} es ef eo ed h =
-      h
-      ∙ ap₂ (λ (s f : ℕ). every t (λ q. every (suc l) (leads s f opening l d items positions item openings q))) es ef
-      ∙ ap₂ (λ (o d : ℕ). every t (λ q. every (suc l) (leads (item_size m n) (item_front m n) o l d items positions item openings q))) (eo ∙ ap opening_size ed) ed
-      ∙ all-lead
+  pub openings-lead : {r : Bool} → r ≡ every f.t (λ q. every (suc f.l) (leads f q)) → r ≡ openings_lead items folded
+  openings-lead e =
+      e
+      ∙ sym (ap₂ (λ (a b : ℕ). every a (λ q. every (suc b) (leads_of fp items folded q))) position-count item_count
+      ∙ every-cong f.t _ _ (λ q g. every-cong (suc f.l) _ _ (λ i h. leads-same q i g h)))
 
   -- What is hashed.
-  all-reached : strings_reached (item_size m n) (item_front m n) (opening_size (depth k)) l t (depth k) items positions item openings ≡ reached_strings fp batch shown
-  all-reached = sym (ap₂ (λ (a b : ℕ). reached a (suc b) (leads_of fp batch shown) (λ q i. opening_strings_of baby_bear batch sha shown q i)) position-count item_count
-      ∙ reached-cong t (suc l) _ _ _ _ (λ q i g h. leads-same q i g h) (λ q i g h. strings-same q i g h))
+  pub strings-reached : {r : ℕ} → r ≡ blocks_of block_count (strings_reached f) → r ≡ blocks_of block_count (reached_strings fp items folded)
+  strings-reached e =
+      e
+      ∙ ap (blocks_of block_count) (sym (ap₂ (λ (a b : ℕ). reached a (suc b) (leads_of fp items folded) (λ q i. opening_strings_of baby_bear items sha folded q i)) position-count item_count
+      ∙ reached-cong f.t (suc f.l) _ _ _ _ (λ q i g h. leads-same q i g h) (λ q i g h. strings-same q i g h)))
 
-  pub strings-reached : {size front opening d r : ℕ} → size ≡ item_size m n → front ≡ item_front m n → opening ≡ opening_size d → d ≡ depth k
-      → r ≡ blocks_of block_count (strings_reached size front opening l t d items positions item openings) → r ≡ blocks_of block_count (reached_strings fp batch shown)
-  strings-reached {size} {front} {opening} {d} es ef eo ed h =
-      h
-      ∙ ap (blocks_of block_count) (ap₂ (λ (s f : ℕ). strings_reached s f opening l t d items positions item openings) es ef
-      ∙ ap₂ (λ (o d : ℕ). strings_reached (item_size m n) (item_front m n) o l t d items positions item openings) (eo ∙ ap opening_size ed) ed
-      ∙ all-reached)
+  -- The combination of the items' opened values at position q.
+  abbrev combined : ℕ → F
+  combined q = mix baby_bear f.l (λ i. value_at baby_bear items folded q i) (ofℕ challenge)
 
-  module _ {weights : List ℕ} (w : weights ≡ lagrange_at l challenge) (stride : ℕ) (layout : 4 * stride ≡ opening_size (depth k)) where
-    -- The combination of the items' opened values at position q.
-    mixed : (q : ℕ) → q < t → weighted weights openings stride (q * suc l * stride) ≡ mix baby_bear l (λ i. value_at baby_bear batch shown q i) (ofℕ challenge)
-    mixed q g = weighted-mix l challenge w openings stride (q * suc l * stride) (λ i. value_at baby_bear batch shown q i)
-        (λ i h. value-is q i g (omega arith) stride layout ∙ ap (element_at openings) (place_is i))
-      where
-        place_is : (i : ℕ) → (q * suc l + i) * stride ≡ i * stride + q * suc l * stride
-        place_is i = omega (arith, add-mul (q * suc l) i stride)
+  mixed : (q : ℕ) → q < f.t → weighted (lagrange_at f.l challenge) f.openings.now (stride f) (q * suc f.l * stride f) ≡ combined q
+  mixed q g = weighted-mix f.l challenge refl f.openings.now (stride f) (q * suc f.l * stride f) (λ i. value_at baby_bear items folded q i)
+      (λ i h. value-is q i g (omega arith) ∙ ap (element_at f.openings.now) (place_is i))
+    where
+      place_is : (i : ℕ) → (q * suc f.l + i) * stride f ≡ i * stride f + q * suc f.l * stride f
+      place_is i = omega (arith, add-mul (q * suc f.l) i (stride f))
 
-    combines-same : (q : ℕ) → q < t
-        → value_combines weights stride openings q ≡ same_element (value_at baby_bear batch shown q l) (mix baby_bear l (λ i. value_at baby_bear batch shown q i) (ofℕ challenge))
-    combines-same q g =
-        ap (λ (s : ℕ). eqb (number_at openings ((q * suc s + s) * stride)) (val (weighted weights openings stride (q * suc s * stride)))) (length-weights l challenge w)
-        ∙ ap (λ (a : F). eqb (number q l g (omega arith) stride layout) (val a)) (mixed q g)
-        ∙ sym (ap (λ (a : F). same_element a (mix baby_bear l (λ i. value_at baby_bear batch shown q i) (ofℕ challenge))) (value-is q l g (omega arith) stride layout)
-        ∙ same_number (mix baby_bear l (λ i. value_at baby_bear batch shown q i) (ofℕ challenge)) (number-below q l g (omega arith) stride layout))
+  combines-same : (q : ℕ) → q < f.t → value_combines (lagrange_at f.l challenge) f q ≡ same_element (value_at baby_bear items folded q f.l) (combined q)
+  combines-same q g =
+      ap (λ (a : F). eqb (number q f.l g (omega arith)) (val a)) (mixed q g)
+      ∙ sym (ap (λ (a : F). same_element a (combined q)) (value-is q f.l g (omega arith))
+      ∙ same_number (combined q) (number-below q f.l g (omega arith)))
 
-    pub values-combine : {r : Bool} → r ≡ every t (value_combines weights stride openings) → r ≡ values_combine batch shown
-    values-combine h = h
-        ∙ every-cong t _ _ combines-same
-        ∙ sym (ap₂ (λ (a b : ℕ). every a (λ q. same_element (value_at baby_bear batch shown q b) (mix baby_bear b (λ i. value_at baby_bear batch shown q i) (ofℕ challenge)))) position-count item_count)
+  pub values-combine : {r : Bool} → r ≡ every f.t (value_combines (lagrange_at f.l challenge) f) → r ≡ values_combine items folded
+  values-combine e =
+      e
+      ∙ every-cong f.t _ _ combines-same
+      ∙ sym (ap₂ (λ (a b : ℕ). every a (λ q. same_element (value_at baby_bear items folded q b) (mix baby_bear b (λ i. value_at baby_bear items folded q i) (ofℕ challenge)))) position-count item_count)

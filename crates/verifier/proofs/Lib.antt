@@ -1,5 +1,4 @@
 pub mod Combining
-pub mod Counting
 pub mod InputLaws
 pub mod Leading
 pub mod Places

@@ -4,4 +4,5 @@
 mod combined;
 mod input;
 mod opened;
+mod shown;
 pub mod verify;

@@ -1,9 +1,8 @@
 -- `code::codeword` meets its contract. The invariant: the values at the first i positions are written.
 -- Assumes nothing.
-use mathlib.Core.Path.{◌≡◌}
 use mathlib.Core.List.{List, map}
-use Prim.Native.Nat.{ℕ, ◌≤◌, ◌-◌}
-use lib.ListN.{length, get_or}
+use Prim.Native.Nat.{ℕ}
+use lib.ListN.{get_or}
 use Rattle.field.specs.BabyBear.{R, val, ofℕ}
 use Rattle.code.specs.Codeword.{value_at}
 use Rattle.algebra.proofs.Filling.{Filled}
@@ -14,7 +13,4 @@ abbrev pub at : List ℕ → List ℕ → ℕ → ℕ
 at w points i = val (value_at R (map ofℕ w) (ofℕ (get_or points i 0)))
 
 abbrev pub invariant-loop-i : goal.invariant-loop-i
-invariant-loop-i l = (l.i ≤ length l.initial.out) × (length l.out ≡ length l.initial.out) × Filled (at l.w l.points) l.i l.out
-
-abbrev pub decreases-loop-i : goal.decreases-loop-i
-decreases-loop-i l = length l.initial.out - l.i
+invariant-loop-i l = Filled (at l.w l.points) l.i l.out

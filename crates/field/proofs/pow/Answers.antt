@@ -7,9 +7,6 @@ use Rattle.field.proofs.pow.Goals.{then-left-eq1, else-left-eq1}
 pub loop-left-init : goal.loop-left-init
 loop-left-init c = left-start c.args.a c.args.e
 
-pub loop-left-smaller : goal.loop-left-smaller
-loop-left-smaller c = omega arith
-
 pub loop-left-preserved : goal.loop-left-preserved
 loop-left-preserved c =
     elim c.if-left-eq1.branch [

@@ -2,7 +2,7 @@
 -- Assumes nothing.
 use mathlib.Core.Path.{◌≡◌}
 use mathlib.Core.List.{List, []}
-use Prim.Native.Nat.{ℕ, ◌≤◌, ◌-◌}
+use Prim.Native.Nat.{ℕ}
 use lib.ListN.{length, get_or}
 use Rattle.hash.specs.Sha256.{words}
 use Rattle.lanes.proofs.Lanes.{Each}
@@ -13,7 +13,4 @@ abbrev pub block_of : List (List ℕ) → ℕ → ℕ → List ℕ
 block_of messages at q = words (get_or messages q []) at
 
 abbrev pub invariant-loop-i : goal.invariant-loop-i
-invariant-loop-i l = (l.i ≤ 4) × (length l.m ≡ 64) × Each 4 16 (block_of l.messages l.at) l.i l.initial.m l.m
-
-abbrev pub decreases-loop-i : goal.decreases-loop-i
-decreases-loop-i l = 4 - l.i
+invariant-loop-i l = (length l.m ≡ 64) × Each 4 16 (block_of l.messages l.at) l.i l.initial.m l.m

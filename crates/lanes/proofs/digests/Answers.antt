@@ -13,65 +13,33 @@ use Rattle.lanes.proofs.digests.Goals as goal
 
 pub loop-b-init : goal.loop-b-init
 unfolding hash
-loop-b-init c = (omega arith, search rules, c.start-value.ensures)
-
-pub overflow_mul-b : goal.overflow_mul-b
-overflow_mul-b c = omega arith
-
-pub block-requires : goal.block-requires
-block-requires c = omega arith
-
-pub overflow_add-b : goal.overflow_add-b
-overflow_add-b c = omega arith
-
-pub loop-b-smaller : goal.loop-b-smaller
-loop-b-smaller c = omega arith
+loop-b-init c = (search rules, c.start-value.ensures)
 
 pub loop-b-preserved : goal.loop-b-preserved
 loop-b-preserved c = (
-  omega arith,
   search rules,
   λ i inside.
       one_block (get_or c.args.messages.now i []) H₀ (lane 4 i 8 c.loop-b.value) (lane 4 i 16 c.block.result) (lane 4 i 8 c.compress-next.result) c.loop-b.b
-      (c.loop-b.invariant.2 i inside) (c.block.ensures i inside) (c.compress-next.ensures i inside),
+      (c.loop-b.invariant.1 i inside) (c.block.ensures i inside) (c.compress-next.ensures i inside),
 )
 
 pub loop-i-init : goal.loop-i-init
-loop-i-init c = (omega arith, refl, below_none _)
-
-pub slice_bounds-get-end : goal.slice_bounds-get-end
-slice_bounds-get-end c = omega arith
-
-pub slice_bounds-get-end-in-loop-i : goal.slice_bounds-get-end-in-loop-i
-slice_bounds-get-end-in-loop-i c = omega arith
+loop-i-init c = (refl, below_none _)
 
 pub get-requires : goal.get-requires
-get-requires c = (omega arith, c.loop-b.invariant.1)
-
-pub offset_bounds-out-i : goal.offset_bounds-out-i
-offset_bounds-out-i c = omega arith
-
-pub bounds-out-i : goal.bounds-out-i
-bounds-out-i c = omega arith
-
-pub overflow_add-i : goal.overflow_add-i
-overflow_add-i c = omega arith
-
-pub loop-i-smaller : goal.loop-i-smaller
-loop-i-smaller c = omega arith
+get-requires c = (omega arith, c.loop-b.invariant.0)
 
 pub loop-i-preserved : goal.loop-i-preserved
 loop-i-preserved c =
     let fits : c.loop-i.i < length c.loop-i.out = omega arith in (
-      omega arith,
-      length-set c.loop-i.out c.loop-i.i c.bytes-d.result ∙ c.loop-i.invariant.1,
-      below_more (λ (q : ℕ). get_or (set c.loop-i.out c.loop-i.i c.bytes-d.result) q [] ≡ bytes (lane 4 q 8 c.loop-b.value) 8) c.loop-i.i
-          (λ q few. get_or-set_other c.loop-i.out c.loop-i.i q c.bytes-d.result [] (omega arith) ∙ c.loop-i.invariant.2 q few)
-          (get_or-set_same c.loop-i.out c.loop-i.i c.bytes-d.result [] fits ∙ c.bytes-d.ensures ∙ ap (λ (v : List ℕ). bytes v 8) c.get.ensures),
+      length-set c.loop-i.out c.loop-i.i c.bytes.result ∙ c.loop-i.invariant.0,
+      below_more (λ (q : ℕ). get_or (set c.loop-i.out c.loop-i.i c.bytes.result) q [] ≡ bytes (lane 4 q 8 c.loop-b.value) 8) c.loop-i.i
+          (λ q few. get_or-set_other c.loop-i.out c.loop-i.i q c.bytes.result [] (omega arith) ∙ c.loop-i.invariant.1 q few)
+          (get_or-set_same c.loop-i.out c.loop-i.i c.bytes.result [] fits ∙ c.bytes.ensures ∙ ap (λ (v : List ℕ). bytes v 8) c.get.ensures),
     )
 
 pub returns : goal.returns
 returns c i inside =
     let all : c.loop-b.b ≡ c.args.blocks = omega arith in
-    c.loop-i.invariant.2 i (omega arith)
-    ∙ ap (λ (v : List ℕ). bytes v 8) (c.loop-b.invariant.2 i inside ∙ ap (hash H₀ (get_or c.args.messages.now i [])) all)
+    c.loop-i.invariant.1 i (omega arith)
+    ∙ ap (λ (v : List ℕ). bytes v 8) (c.loop-b.invariant.1 i inside ∙ ap (hash H₀ (get_or c.args.messages.now i [])) all)

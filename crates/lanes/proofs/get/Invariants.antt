@@ -1,13 +1,10 @@
 -- `get` meets its contract. The invariant: the first j words are in place.
 -- Assumes nothing.
 use mathlib.Core.Path.{◌≡◌}
-use Prim.Native.Nat.{◌≤◌, ◌+◌, ◌-◌, ◌*◌}
-use lib.ListN.{length, take, get_or}
+use Prim.Native.Nat.{◌+◌, ◌*◌}
+use lib.ListN.{take, get_or}
 use Rattle.hash.specs.Sha256.{up_to}
 use Rattle.lanes.proofs.get.Given as goal
 
 abbrev pub invariant-loop-j : goal.invariant-loop-j
-invariant-loop-j l = (l.j ≤ length l.initial.v) × (length l.v ≡ length l.initial.v) × (take l.j l.v ≡ up_to l.j (λ k. get_or l.s (4 * k + l.i) 0))
-
-abbrev pub decreases-loop-j : goal.decreases-loop-j
-decreases-loop-j l = length l.initial.v - l.j
+invariant-loop-j l = take l.j l.v ≡ up_to l.j (λ k. get_or l.s (4 * k + l.i) 0)

@@ -10,16 +10,10 @@ use Rattle.lanes.proofs.next_words.Invariants.{moved}
 use Rattle.lanes.proofs.next_words.Goals as goal
 
 pub loop-i-init : goal.loop-i-init
-loop-i-init c = (omega arith, c.requires, each_start 4 16 _ _)
-
-pub slice_bounds-w-end : goal.slice_bounds-w-end
-slice_bounds-w-end c = omega arith
-
-pub slice_bounds-get-end : goal.slice_bounds-get-end
-slice_bounds-get-end c = omega arith
+loop-i-init c = each_start 4 16 _ _
 
 pub get-requires : goal.get-requires
-get-requires c = (omega arith, c.loop-i.invariant.1)
+get-requires c = (omega arith, c.loop-i.auto.words ∙ c.requires)
 
 pub slice_bounds-extend-end : goal.slice_bounds-extend-end
 slice_bounds-extend-end c = sym (twenty _ c.get.new.v _ [] (length-lane 4 _ 16 _) c.get.ensures refl)
@@ -27,39 +21,18 @@ slice_bounds-extend-end c = sym (twenty _ c.get.new.v _ [] (length-lane 4 _ 16 _
 pub extend-requires : goal.extend-requires
 extend-requires c = omega (arith, twenty _ c.get.new.v (0 ∷ 0 ∷ 0 ∷ 0 ∷ []) [] (length-lane 4 _ 16 _) c.get.ensures refl)
 
-pub slice_bounds-put-count : goal.slice_bounds-put-count
-slice_bounds-put-count c = omega arith
-
-pub slice_bounds-put-start : goal.slice_bounds-put-start
-slice_bounds-put-start c = omega arith
-
-pub slice_bounds-put-end : goal.slice_bounds-put-end
-slice_bounds-put-end c = omega arith
-
 pub put-requires : goal.put-requires
 put-requires c =
     let left = moved_on _ c.get.new.v (0 ∷ 0 ∷ 0 ∷ 0 ∷ []) c.extend.new.w (length-lane 4 _ 16 _) c.get.ensures refl c.extend.ensures in
-    (omega arith, c.loop-i.invariant.1 ∙ ap (λ (n : ℕ). 4 * n) (sym (ap length left ∙ sixteen-left _ (length-lane 4 _ 16 _))))
-
-pub overflow_add-i : goal.overflow_add-i
-overflow_add-i c = omega arith
-
-pub loop-i-smaller : goal.loop-i-smaller
-loop-i-smaller c = omega arith
+    (omega arith, c.loop-i.auto.words ∙ c.requires ∙ ap (λ (n : ℕ). 4 * n) (sym (ap length left ∙ sixteen-left _ (length-lane 4 _ 16 _))))
 
 pub loop-i-preserved : goal.loop-i-preserved
 loop-i-preserved c =
-    let own : c.get.new.v ≡ lane 4 c.loop-i.i 16 c.args.words.now = c.get.ensures ∙ (c.loop-i.invariant.2 c.loop-i.i (omega arith)).1 (omega arith) in
-    let left = moved_on (lane 4 c.loop-i.i 16 c.args.words.now) c.get.new.v (0 ∷ 0 ∷ 0 ∷ 0 ∷ []) c.extend.new.w (length-lane 4 c.loop-i.i 16 c.args.words.now) own refl c.extend.ensures in (
-      omega arith,
-      c.put.auto.s ∙ c.loop-i.invariant.1,
-      subst (λ (s : List ℕ). Each 4 16 (moved c.args.words.now) (c.loop-i.i + 1) c.args.words.now s) (sym c.put.ensures)
-          (each_step 4 16 (moved c.args.words.now) c.loop-i.i c.args.words.now c.loop-i.words _ (omega arith) (omega arith)
-          (ap length left ∙ sixteen-left (lane 4 c.loop-i.i 16 c.args.words.now) (length-lane 4 c.loop-i.i 16 c.args.words.now)) left c.loop-i.invariant.2),
-    )
-
-pub shape_of-words : goal.shape_of-words
-shape_of-words c = c.loop-i.invariant.1 ∙ sym c.requires
+    let own : c.get.new.v ≡ lane 4 c.loop-i.i 16 c.args.words.now = c.get.ensures ∙ (c.loop-i.invariant c.loop-i.i (omega arith)).1 (omega arith) in
+    let left = moved_on (lane 4 c.loop-i.i 16 c.args.words.now) c.get.new.v (0 ∷ 0 ∷ 0 ∷ 0 ∷ []) c.extend.new.w (length-lane 4 c.loop-i.i 16 c.args.words.now) own refl c.extend.ensures in
+    subst (λ (s : List ℕ). Each 4 16 (moved c.args.words.now) (c.loop-i.i + 1) c.args.words.now s) (sym c.put.ensures)
+    (each_step 4 16 (moved c.args.words.now) c.loop-i.i c.args.words.now c.loop-i.words _ (omega arith) (omega arith)
+    (ap length left ∙ sixteen-left (lane 4 c.loop-i.i 16 c.args.words.now) (length-lane 4 c.loop-i.i 16 c.args.words.now)) left c.loop-i.invariant)
 
 pub returns : goal.returns
-returns c = each-end 4 16 _ _ _ c.loop-i.words (omega arith) c.loop-i.invariant.2
+returns c = each-end 4 16 _ _ _ c.loop-i.words (omega arith) c.loop-i.invariant

@@ -1,9 +1,8 @@
 -- `next_words` meets its contract. The invariant: each lane before i was moved on, and the others are as they were.
 -- Assumes nothing.
-use mathlib.Core.Path.{◌≡◌}
 use mathlib.Core.List.{List}
-use Prim.Native.Nat.{ℕ, ◌≤◌, ◌-◌}
-use lib.ListN.{length, drop}
+use Prim.Native.Nat.{ℕ}
+use lib.ListN.{drop}
 use Rattle.hash.specs.Sha256.{scheduled}
 use Rattle.lanes.specs.Lanes.{lane}
 use Rattle.lanes.proofs.Lanes.{Each}
@@ -14,7 +13,4 @@ abbrev pub moved : List ℕ → ℕ → List ℕ
 moved words q = drop 4 (scheduled (lane 4 q 16 words) 4)
 
 abbrev pub invariant-loop-i : goal.invariant-loop-i
-invariant-loop-i l = (l.i ≤ 4) × (length l.words ≡ 64) × Each 4 16 (moved l.initial.words) l.i l.initial.words l.words
-
-abbrev pub decreases-loop-i : goal.decreases-loop-i
-decreases-loop-i l = 4 - l.i
+invariant-loop-i l = Each 4 16 (moved l.initial.words) l.i l.initial.words l.words

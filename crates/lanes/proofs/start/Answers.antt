@@ -7,32 +7,16 @@ use native.Mathlib.Omega.{arith}
 use Rattle.lanes.proofs.start.Goals as goal
 
 pub loop-i-init : goal.loop-i-init
-loop-i-init c = (omega arith, refl, each_start 4 8 _ _)
-
-pub slice_bounds-put-end : goal.slice_bounds-put-end
-slice_bounds-put-end c = omega arith
-
-pub slice_bounds-put-end-in-loop-i : goal.slice_bounds-put-end-in-loop-i
-slice_bounds-put-end-in-loop-i c = omega arith
-
-pub put-requires : goal.put-requires
-put-requires c = (omega arith, omega arith)
-
-pub overflow_add-i : goal.overflow_add-i
-overflow_add-i c = omega arith
-
-pub loop-i-smaller : goal.loop-i-smaller
-loop-i-smaller c = omega arith
+loop-i-init c = (refl, each_start 4 8 _ _)
 
 pub loop-i-preserved : goal.loop-i-preserved
 unfolding H₀
 loop-i-preserved c = (
-  omega arith,
-  c.put.auto.s ∙ c.loop-i.invariant.1,
+  c.put.auto.s ∙ c.loop-i.invariant.0,
   subst (λ (s : List ℕ). Each 4 8 (λ q. H₀) (c.loop-i.i + 1) _ s) (sym c.put.ensures)
-      (each_step 4 8 (λ q. H₀) c.loop-i.i _ c.loop-i.s H₀ (omega arith) (omega arith) refl refl c.loop-i.invariant.2),
+      (each_step 4 8 (λ q. H₀) c.loop-i.i _ c.loop-i.s H₀ (omega arith) (omega arith) refl refl c.loop-i.invariant.1),
 )
 
 pub returns : goal.returns
 unfolding H₀
-returns c = each-end 4 8 (λ q. H₀) _ _ c.loop-i.s (omega arith) c.loop-i.invariant.2
+returns c = each-end 4 8 (λ q. H₀) _ _ c.loop-i.s (omega arith) c.loop-i.invariant.1

@@ -9,21 +9,12 @@ use Rattle.tree.specs.Merkle.{node_string}
 use Rattle.tree.proofs.Places.{depth-positive, left-length, right-length, root-halves}
 use Rattle.tree.proofs.+subtree.Goals as goal
 
-pub overflow_sub-depth : goal.overflow_sub-depth
-overflow_sub-depth t c = depth-positive c.args.depth c.args.values.now c.requires.0 (omega arith)
-
 pub subtree-l-requires : goal.subtree-l-requires
 subtree-l-requires t c =
     let vs = c.args.values.now in
     let more : 1 < length vs = omega arith in
     let long = left-length c.args.depth vs c.requires.0 more in
     (omega (arith, depth-positive c.args.depth vs c.requires.0 more, c.decreases), (long, omega (arith, length-take-le (length vs / 2) vs (omega arith), c.requires.1)))
-
-pub overflow_sub-depth-2 : goal.overflow_sub-depth-2
-overflow_sub-depth-2 t c = depth-positive c.args.depth c.args.values.now c.requires.0 (omega arith)
-
-pub overflow_add-first : goal.overflow_add-first
-overflow_add-first t c = omega (arith, c.requires.1)
 
 pub subtree-r-requires : goal.subtree-r-requires
 subtree-r-requires t c =

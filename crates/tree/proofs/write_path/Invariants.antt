@@ -1,19 +1,13 @@
--- `tree::write_path` meets its contract. The invariant: writing the rest of the path gives what writing the whole path gives.
+-- `tree::write_path` meets its contract. The invariant: writing the rest of the path gives what writing the whole path gives. The own
+-- node is depth - level levels below the root.
 use mathlib.Core.Path.{◌≡◌}
-use Prim.Native.Nat.{◌+◌, ◌*◌, ◌^◌, ◌≤◌, ◌<◌}
-use lib.ListN.{length}
+use Prim.Native.Nat.{◌+◌, ◌-◌, ◌*◌, ◌^◌, ◌≤◌, ◌<◌}
 use lib.Seq.{sets}
 use Rattle.tree.specs.Heap.{heap_path}
 use Rattle.tree.specs.Layout.{flat}
 use Rattle.tree.proofs.write_path.Given as goal
 
-abbrev pub invariant-loop-left : goal.invariant-loop-left
-invariant-loop-left l = (l.first ≡ 2 ^ l.left)
-    × (l.first ≤ 256)
-    × (l.place < 2 ^ l.left)
-    × (l.next + 32 * l.left ≤ length l.out)
-    × (length l.out ≡ length l.initial.out)
-    × (sets l.out l.next (flat (heap_path l.nodes l.left l.place)) ≡ sets l.initial.out l.at (flat (heap_path l.nodes l.depth l.position)))
-
-abbrev pub decreases-loop-left : goal.decreases-loop-left
-decreases-loop-left l = l.left
+abbrev pub invariant-loop-level : goal.invariant-loop-level
+invariant-loop-level l = (2 ^ (l.depth - l.level) ≤ l.n)
+    × (l.n < 2 * 2 ^ (l.depth - l.level))
+    × (sets l.out (l.at + 32 * l.level) (flat (heap_path l.nodes (l.depth - l.level) (l.n - 2 ^ (l.depth - l.level)))) ≡ sets l.initial.out l.at (flat (heap_path l.nodes l.depth (l.leaf - 2 ^ l.depth))))

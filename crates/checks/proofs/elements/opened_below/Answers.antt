@@ -1,41 +1,26 @@
-use mathlib.Core.Path.{sym, ap, ◌∙◌}
-use native.Mathlib.Nat.{zero-mul}
+-- `elements::opened_below` meets its contract: an opening's value is its first number.
+use mathlib.Core.Path.{ap, ◌∙◌}
+use mathlib.Core.List.{List}
+use Prim.Native.Nat.{ℕ}
 use native.Mathlib.Omega.{arith}
+use borrow.Author.Tests.{tests}
+use lib.Dec.{ltb}
+use Rattle.std.proofs.Common.{rules}
+use Rattle.std.proofs.lemmas.Iterator.Search.{all_from_yields_List}
 use Rattle.field.specs.BabyBear.{p}
-use Rattle.tree.specs.Layout.{opened_value}
-use Rattle.checks.proofs.Laws.{every-none, every-all, below_more, below_fails}
-use Rattle.checks.proofs.Members.{Member, within, next_place}
-use Rattle.checks.proofs.elements.opened_below.Invariants.{value}
+use Rattle.tree.specs.Layout.{opening_size}
+use Rattle.code.specs.Points.{depth}
+use Rattle.theory.specs.Buffers.{number_at}
+use Rattle.theory.proofs.CheckLaws.{every-cong}
+use Rattle.checks.proofs.Chunks.{YieldsList-from_chunks_exact, all-chunks}
+use Rattle.checks.proofs.ItemTests.{first-number}
 use Rattle.checks.proofs.elements.opened_below.Goals as goal
-use Rattle.checks.proofs.elements.opened_below.Goals.{In-loop-j}
-
-opening-at : (c : In-loop-j) → (Member c.args.size c.args.count c.loop-j.j c.loop-j.at c.args.openings.now)
-opening-at c = record { inside = c.loop-j-test.true; place = c.loop-j.invariant.1; long = c.requires.1 }
-
-pub loop-j-init : goal.loop-j-init
-loop-j-init c = (omega arith, sym (zero-mul _), every-none _)
-
-pub value_at-requires : goal.value_at-requires
-value_at-requires c = let h = within (opening-at (goal.at.value_at-requires c).In-loop-j) in omega arith
-
-pub returns-then-value_at-ge-P : goal.returns-then-value_at-ge-P
-returns-then-value_at-ge-P c = below_fails p _ (value c.args.size c.args.openings.now) c.loop-j.j (omega arith) (c.value_at.ensures ∙ ap (opened_value c.args.openings.now) c.loop-j.invariant.1) c.if-value_at-ge-P.true
-
-pub overflow_add-at : goal.overflow_add-at
-overflow_add-at c = let h = within (opening-at (goal.at.overflow_add-at c).In-loop-j) in omega arith
-
-pub overflow_add-j : goal.overflow_add-j
-overflow_add-j c = omega arith
-
-pub loop-j-smaller : goal.loop-j-smaller
-loop-j-smaller c = omega arith
-
-pub loop-j-preserved : goal.loop-j-preserved
-loop-j-preserved c = (
-  omega arith,
-  next_place c.args.size c.loop-j.j c.loop-j.invariant.1,
-  below_more p (value c.args.size c.args.openings.now) c.loop-j.j c.loop-j.invariant.2 (c.value_at.ensures ∙ ap (opened_value c.args.openings.now) c.loop-j.invariant.1) c.if-value_at-ge-P.false,
-)
 
 pub returns : goal.returns
-returns c = every-all _ _ c.loop-j.j (omega arith) (omega arith) c.loop-j.invariant.2
+returns c = λ count long.
+    let openings = c.args.openings.now in
+    let size = opening_size (depth c.args.sizes.k) in
+    let test = λ (opening : List ℕ). ltb (number_at opening 0) p in
+    all_from_yields_List test _ _ _ c.all.ensures.ran (YieldsList-from_chunks_exact size count openings c.chunks_exact.ensures.rest (c.chunks_exact.ensures.size ∙ c.opening_size.ensures.0) (omega arith) (omega arith)) (λ x b q k. search (rules, tests))
+    ∙ all-chunks test size count openings
+    ∙ every-cong count _ _ (λ j h. ap (λ (v : ℕ). ltb v p) (first-number openings size count j h long (omega arith)))

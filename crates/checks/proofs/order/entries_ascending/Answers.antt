@@ -1,32 +1,22 @@
-use mathlib.Core.Path.{sym, ap, ◌∙◌}
-use native.Mathlib.Numerals.{add-one}
+-- `order::entries_ascending` meets its contract: entry j - 1 comes before entry j, for each j from 1 on.
+use mathlib.Core.Path.{◌≡◌, refl, ap₂, ◌∙◌}
+use Prim.Native.Nat.{ℕ, suc, ◌+◌, ◌-◌}
 use native.Mathlib.Omega.{arith}
+use borrow.Author.Tests.{tests}
+use Rattle.std.proofs.Common.{rules}
+use Rattle.std.proofs.lemmas.Iterator.{YieldsList-from_range}
+use Rattle.std.proofs.lemmas.Iterator.Search.{all_from_yields_List}
+use Rattle.theory.specs.Buffers.{entry_count}
 use Rattle.theory.specs.Sizes.{before}
-use Rattle.theory.proofs.CheckLaws.{every-fails}
-use Rattle.checks.proofs.Laws.{every-none, every_more, every-all}
-use Rattle.checks.proofs.order.entries_ascending.Invariants.{ascends}
+use Rattle.theory.proofs.CheckLaws.{every-cong}
+use Rattle.checks.proofs.Chunks.{all-range}
 use Rattle.checks.proofs.order.entries_ascending.Goals as goal
 
-pub loop-j-init : goal.loop-j-init
-loop-j-init c = (omega arith, every-none _)
-
-pub overflow_add-j : goal.overflow_add-j
-overflow_add-j c = omega arith
-
-pub overflow_add-j-in-loop-j : goal.overflow_add-j-in-loop-j
-overflow_add-j-in-loop-j c = omega arith
-
-pub returns-then-not-comes_before : goal.returns-then-not-comes_before
-returns-then-not-comes_before c = every-fails _ (ascends c.args.b.now) c.loop-j.j (omega arith) (ap (before c.args.b.now c.loop-j.j) (sym (add-one c.loop-j.j)) ∙ sym c.comes_before.ensures ∙ c.if-not-comes_before.true)
-
-pub overflow_add-j-in-loop-j-2 : goal.overflow_add-j-in-loop-j-2
-overflow_add-j-in-loop-j-2 c = omega arith
-
-pub loop-j-smaller : goal.loop-j-smaller
-loop-j-smaller c = omega arith
-
-pub loop-j-preserved : goal.loop-j-preserved
-loop-j-preserved c = (omega arith, every_more (ascends c.args.b.now) c.loop-j.j c.loop-j.invariant.1 (ap (before c.args.b.now c.loop-j.j) (sym (add-one c.loop-j.j)) ∙ sym c.comes_before.ensures ∙ c.if-not-comes_before.false))
-
 pub returns : goal.returns
-returns c = every-all _ _ c.loop-j.j (omega arith) (omega arith) c.loop-j.invariant.1
+returns c =
+    let b = c.args.b.now in
+    let count = entry_count b - 1 in
+    let test = λ (j : ℕ). before b (j - 1) j in
+    all_from_yields_List test _ _ _ c.all.ensures.ran (YieldsList-from_range 1 (entry_count b) count refl refl) (λ x b q k. search (rules, tests))
+    ∙ all-range test 1 count
+    ∙ every-cong count _ _ (λ i _. let this : 1 + i - 1 ≡ i = omega arith in let next : 1 + i ≡ suc i = omega arith in ap₂ (before b) this next)

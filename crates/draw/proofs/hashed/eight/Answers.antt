@@ -1,15 +1,12 @@
--- `hashed::eight` meets its contract.
-use mathlib.Core.Path.{ap₂}
-use Prim.Native.Nat.{ℕ, ◌+◌, ◌*◌, ◌%◌, ◌<◌}
-use native.Mathlib.Nat.{mod-lt}
+-- `hashed::eight` meets its contract: the eight bytes are two numbers of four.
+use mathlib.Core.Path.{◌≡◌, ap}
+use Prim.Native.Nat.{ℕ, ◌%◌}
 use native.Mathlib.Omega.{arith}
-use borrow.Author.Rules.{rules}
+use Rattle.numbers.proofs.Bytes.{number_at}
+use Rattle.draw.specs.Draw.{eight}
 use Rattle.draw.proofs.hashed.eight.Goals as goal
 
-pub overflow_cast-result-2 : goal.overflow_cast-result-2
-overflow_cast-result-2 c =
-    let small : c.args.q < 4294967296 = search rules in
-    omega (arith, mod-lt (c.get-low.result + 4294967296 * c.get-high.result) {m = c.args.q} c.requires)
-
 pub returns : goal.returns
-returns c = ap₂ (λ (x y : ℕ). (x + 4294967296 * y) % c.args.q) c.get-low.ensures c.get-high.ensures
+returns c =
+    let read : c.from_le_bytes.result ≡ eight c.args.digest = omega (arith, c.from_le_bytes.ensures, number_at 0 c.args.digest (omega arith), number_at 1 c.args.digest (omega arith)) in
+    ap (λ (x : ℕ). x % c.args.q) read

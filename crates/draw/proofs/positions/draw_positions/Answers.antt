@@ -1,40 +1,28 @@
 -- `draw_positions` meets its contract: a refusal writes nothing.
-use mathlib.Core.Path.{sym, ◌∙◌}
+use mathlib.Core.Path.{sym}
 use Prim.Native.Nat.{◌*◌}
 use native.Mathlib.Omega.{arith}
 use borrow.Author.Tests.{leb-true}
 use lib.Dec.{leb}
+use Rattle.std.proofs.Common.{rules}
 use Rattle.numbers.proofs.Tests.{and_right}
 use Rattle.code.proofs.Sizes.{count-few}
-use Rattle.checks.proofs.Calls.{refused, accepted}
+use Rattle.checks.proofs.Calls.{refuses, accepts}
 use Rattle.draw.specs.Draw.{draw_positions}
-use Rattle.draw.proofs.Passed.{PositionsPass, positions-pass}
+use Rattle.draw.proofs.Passed.{positions-pass}
 use Rattle.draw.proofs.positions.draw_positions.Goals as goal
-use Rattle.draw.proofs.positions.draw_positions.Goals.{Else-answer-ne0}
 
--- The call goes on: every check passed.
-passed : (c : Else-answer-ne0) → (PositionsPass c.args.k c.args.l c.args.t c.args.challenge c.args.seed.now c.args.root.now c.args.positions.now)
-passed c =
-    positions-pass c.args.k c.args.l c.args.t c.args.challenge c.args.seed.now c.args.root.now c.args.positions.now (sym c.verdict-answer.ensures ∙ c.if-answer-ne0.false)
-
-pub returns-then-answer-ne0 : goal.returns-then-answer-ne0
+pub returns-in_err-verdict : goal.returns-in_err-verdict
 unfolding draw_positions
-returns-then-answer-ne0 c =
-    record {
-      answer = c.verdict-answer.ensures;
-      positions = refused _ c.args.positions.now c.verdict-answer.ensures c.if-answer-ne0.true;
-    }
+returns-in_err-verdict c = record { answer = search rules; positions = refuses c.in_err-verdict.field-0.0 _ _ c.in_err-verdict.ensures }
 
 pub write-requires : goal.write-requires
 write-requires c =
-    let h = (passed (goal.at.write-requires c).Else-answer-ne0).fits in
-    let few = leb-true c.args.t (4 * c.args.k) (and_right (leb 1 c.args.t) (leb c.args.t (4 * c.args.k)) h.positions-count) in
-    (h.count, omega (arith, few, count-few c.args.k h.count), h.seed-length, h.root-length, h.positions-length)
+    let a = c.args in
+    let h = (positions-pass a.k a.l a.t a.challenge a.seed.now a.root.now a.positions.now (sym c.in_ok-verdict.ensures)).fits in
+    let few = leb-true a.t (4 * a.k) (and_right (leb 1 a.t) (leb a.t (4 * a.k)) h.positions-count) in
+    (h.count, omega (arith, few, count-few a.k h.count), h.seed-length, h.root-length, h.positions-length)
 
 pub returns : goal.returns
 unfolding draw_positions
-returns c =
-    record {
-      answer = sym c.if-answer-ne0.false ∙ c.verdict-answer.ensures;
-      positions = accepted c.args.positions.now c.verdict-answer.ensures c.if-answer-ne0.false c.write.ensures;
-    }
+returns c = let passed = c.in_ok-verdict.ensures in record { answer = passed; positions = accepts _ passed c.write.ensures }

@@ -1,15 +1,12 @@
--- `encode::write` meets its contract: the front of an array is scratch space.
-use mathlib.Core.Path.{sym}
-use native.Mathlib.Omega.{arith}
-use Rattle.code.proofs.Sizes.{count-few}
-use Rattle.checks.proofs.Fronts.{front_length}
+-- `encode::write` meets its contract: the tree is over the codeword, and its root is copied over the whole buffer.
+use mathlib.Core.Path.{ap, ◌∙◌}
+use lib.ListN.{length}
+use Rattle.theory.specs.Fp.{elements}
+use Rattle.checks.proofs.WitnessLaws.{codeword-count, root-read, codeword-leaves}
 use Rattle.encoder.proofs.encode.write.Goals as goal
 
-pub slice_bounds-values-end : goal.slice_bounds-values-end
-slice_bounds-values-end c = omega (arith, count-few c.args.k c.requires.0)
+pub root-digest-requires : goal.root-digest-requires
+root-digest-requires c = codeword-leaves c.args.k c.requires.0 (ap length c.codeword.ensures ∙ codeword-count c.args.k c.args.points.now (elements c.args.k c.args.w.now) c.requires.5) c.depth_of.ensures
 
-pub slice_bounds-write_in-end : goal.slice_bounds-write_in-end
-slice_bounds-write_in-end c = front_length _ _ (omega (arith, count-few c.args.k c.requires.0))
-
-pub write_in-requires : goal.write_in-requires
-write_in-requires c = (c.requires.0, c.requires.1, c.requires.2, sym (front_length _ _ (omega (arith, count-few c.args.k c.requires.0))), c.requires.3, c.requires.4, c.requires.5)
+pub returns-clause-root_after : goal.returns-clause-root_after
+returns-clause-root_after c = c.copy_from_slice.ensures.after ∙ c.root-digest.ensures ∙ root-read c.args.k c.args.points.now (elements c.args.k c.args.w.now) c.codeword.ensures c.depth_of.ensures

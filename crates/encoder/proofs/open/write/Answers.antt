@@ -1,15 +1,21 @@
--- `open::write` meets its contract: the front of an array is scratch space.
-use mathlib.Core.Path.{sym}
+-- `open::write` meets its contract: the openings are those of the codeword.
+use mathlib.Core.Path.{ap, ◌∙◌}
 use native.Mathlib.Omega.{arith}
-use Rattle.code.proofs.Sizes.{count-few}
-use Rattle.checks.proofs.Fronts.{front_length}
+use lib.ListN.{length}
+use Rattle.theory.specs.Fp.{elements}
+use Rattle.checks.proofs.WitnessLaws.{codeword-count, codeword-leaves}
+use Rattle.encoder.proofs.OpeningLaws.{depth-few, openings-read, positions-inside, openings-room}
 use Rattle.encoder.proofs.open.write.Goals as goal
 
-pub slice_bounds-values-end : goal.slice_bounds-values-end
-slice_bounds-values-end c = omega (arith, count-few c.args.k c.requires.0)
+pub write_openings-requires : goal.write_openings-requires
+write_openings-requires c = (
+  codeword-leaves c.args.k c.requires.0 (ap length c.codeword.ensures ∙ codeword-count c.args.k c.args.points.now (elements c.args.k c.args.w.now) c.requires.6) c.depth_of.ensures,
+  omega (arith, c.depth_of.ensures, depth-few c.args.k c.requires.0),
+  positions-inside c.args.k c.args.t c.args.positions.now c.requires.3 c.requires.4 c.depth_of.ensures c.requires.0,
+  openings-room c.args.k c.args.t c.args.positions.now c.requires.3 c.requires.4 c.depth_of.ensures c.requires.5,
+)
 
-pub slice_bounds-write_in-end : goal.slice_bounds-write_in-end
-slice_bounds-write_in-end c = front_length _ _ (omega (arith, count-few c.args.k c.requires.0))
-
-pub write_in-requires : goal.write_in-requires
-write_in-requires c = (c.requires.0, c.requires.1, c.requires.2, c.requires.3, c.requires.4, sym (front_length _ _ (omega (arith, count-few c.args.k c.requires.0))), c.requires.5, c.requires.6)
+pub returns : goal.returns
+returns c =
+    c.write_openings.ensures
+    ∙ openings-read c.args.k c.args.t c.args.positions.now c.requires.3 c.requires.4 c.depth_of.ensures c.args.points.now c.requires.6 (elements c.args.k c.args.w.now) c.codeword.ensures

@@ -7,16 +7,10 @@ use Rattle.fold.proofs.Running.{product-none, product-more, product-all}
 use Rattle.fold.proofs.basis.vanishing.Goals as goal
 
 pub loop-j-init : goal.loop-j-init
-loop-j-init c = (omega arith, product-none (λ j. ofℕ c.args.a ⊖ node baby_bear j))
-
-pub overflow_add-j : goal.overflow_add-j
-overflow_add-j c = omega arith
-
-pub loop-j-smaller : goal.loop-j-smaller
-loop-j-smaller c = omega arith
+loop-j-init c = product-none (λ j. ofℕ c.args.a ⊖ node baby_bear j)
 
 pub loop-j-preserved : goal.loop-j-preserved
-loop-j-preserved c = (omega arith, product-more (λ j. ofℕ c.args.a ⊖ node baby_bear j) c.loop-j.j c.loop-j.product c.sub.result c.mul-product.result c.loop-j.invariant.1 (vanishing-factor c.args.a c.loop-j.j c.sub.result c.sub.ensures) c.mul-product.ensures)
+loop-j-preserved c = product-more (λ j. ofℕ c.args.a ⊖ node baby_bear j) c.loop-j.j c.loop-j.product c.sub.result c.mul-product.result c.loop-j.invariant (vanishing-factor c.args.a c.loop-j.j c.sub.result c.sub.ensures) c.mul-product.ensures
 
 pub returns : goal.returns
-returns c = product-all (λ j. ofℕ c.args.a ⊖ node baby_bear j) c.loop-j.j c.args.l (omega arith) c.loop-j.invariant.1 ∙ ap val (vanishing-product c.args.l (ofℕ c.args.a))
+returns c = product-all (λ j. ofℕ c.args.a ⊖ node baby_bear j) c.loop-j.j c.args.l (omega arith) c.loop-j.invariant ∙ ap val (vanishing-product c.args.l (ofℕ c.args.a))

@@ -1,14 +1,9 @@
--- `fold::interpolate::slopes` meets its contract. The invariant: with the slopes from index j on, the list is the result.
+-- `interpolate::slopes` meets its contract. The invariant: with the slopes from index j on, the list is the result.
 use mathlib.Core.Path.{◌≡◌}
-use Prim.Native.Nat.{◌-◌, ◌≤◌, ◌<◌}
-use lib.ListN.{length}
 use Rattle.field.specs.Numbers.{Below}
 use Rattle.fold.specs.Newton.{slopes_from}
 use Rattle.fold.proofs.Newton.{slopes_left}
 use Rattle.fold.proofs.interpolate.slopes.Given as goal
 
 abbrev pub invariant-loop-j : goal.invariant-loop-j
-invariant-loop-j l = (l.i < l.j) × (l.j ≤ length l.values) × (length l.values ≡ length l.initial.values) × Below l.values × (slopes_left l.i l.v l.j l.values ≡ slopes_from l.i l.initial.values)
-
-abbrev pub decreases-loop-j : goal.decreases-loop-j
-decreases-loop-j l = length l.initial.values - l.j
+invariant-loop-j l = Below l.values × (slopes_left l.i l.v l.j l.values ≡ slopes_from l.i l.initial.values)

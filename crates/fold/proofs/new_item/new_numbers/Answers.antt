@@ -7,7 +7,11 @@ use Rattle.fold.proofs.NewItem.{numbers-inside, new-numbers}
 use Rattle.fold.proofs.new_item.new_numbers.Goals as goal
 
 pub combine-requires : goal.combine-requires
-combine-requires c = (omega (arith, length-weights c.args.l c.args.at c.requires.6, c.requires.2), numbers-inside c.args.m c.args.n c.args.l c.args.stride c.args.at c.args.items.now c.requires.9 c.requires.5 c.requires.6 _ c.requires.8)
+combine-requires c =
+    let w = c.args.weights.now in
+    (omega (arith, length-weights w.l w.at c.as_slice.ensures, c.requires.0), numbers-inside c.args.sizes.m c.args.sizes.n w.l c.stride.result w.at c.args.items.now c.stride.ensures c.requires.1 c.as_slice.ensures _ c.requires.3)
 
 pub returns : goal.returns
-returns c = new-numbers c.args.m c.args.n c.args.l c.args.stride c.args.at c.args.items.now c.requires.9 c.requires.5 c.requires.6 (map ofℕ c.args.quotient.now) c.requires.8 c.combine.ensures c.new_e.ensures
+returns c =
+    let w = c.args.weights.now in
+    new-numbers c.args.sizes.m c.args.sizes.n w.l c.stride.result w.at c.args.items.now c.stride.ensures c.requires.1 c.as_slice.ensures (map ofℕ c.args.coefficients.now) c.requires.3 c.combine.ensures c.new_e.ensures

@@ -1,18 +1,20 @@
--- `fold::quotient::combined_value` meets its contract: it passes two arrays as scratch space.
-use native.Mathlib.Omega.{arith}
-use lib.Seq.{length-take-le}
-use mathlib.Core.Path.{sym}
+-- `quotient::combined_value` meets its contract: three combinations, and the circuit's value at them.
+use Rattle.fold.proofs.Scratch.{r-inside, x-inside, r-fits, entries-inside, value-is}
 use Rattle.fold.proofs.quotient.combined_value.Goals as goal
 
-pub slice_bounds-combined_value_in-end : goal.slice_bounds-combined_value_in-end
-slice_bounds-combined_value_in-end c = sym (length-take-le c.args.m _ c.requires.0.m-most)
+pub combine-requires : goal.combine-requires
+combine-requires c = r-inside c.args.list.now c.args.weights.now c.requires.1 c.as_slice-weights.ensures c.stride-stride.result c.stride-stride.ensures
 
-pub slice_bounds-combined_value_in-end-2 : goal.slice_bounds-combined_value_in-end-2
-slice_bounds-combined_value_in-end-2 c = sym (length-take-le _ _ (omega (arith, c.requires.0.n-most, c.requires.0.k-most)))
+pub combine-requires-2 : goal.combine-requires-2
+combine-requires-2 c = x-inside c.args.list.now c.args.weights.now c.requires.1 c.as_slice-weights.ensures c.stride-stride.result c.stride-stride.ensures
 
-pub combined_value_in-requires : goal.combined_value_in-requires
-combined_value_in-requires c =
+pub value-requires : goal.value-requires
+value-requires c =
+    let s = c.args.list.now in
     record {
-      fits = c.requires;
-      r_len = (length-take-le c.args.m _ c.requires.0.m-most, length-take-le _ _ (omega (arith, c.requires.0.n-most, c.requires.0.k-most)));
+      r_len_bound = r-fits s c.args.weights.now c.requires.1 c.as_slice-weights.ensures c.stride-stride.result c.stride-stride.ensures c.combine-2.ensures c.combine.ensures c.combine-3.ensures;
+      entries_inside = entries-inside s c.args.weights.now c.requires.1 c.as_slice-weights.ensures c.stride-stride.result c.stride-stride.ensures c.combine-2.ensures c.combine.ensures c.combine-3.ensures c.requires.0;
     }
+
+pub returns : goal.returns
+returns c = value-is c.args.list.now c.args.weights.now c.requires.1 c.as_slice-weights.ensures c.stride-stride.result c.stride-stride.ensures c.combine-2.ensures c.combine.ensures c.combine-3.ensures c.value.ensures

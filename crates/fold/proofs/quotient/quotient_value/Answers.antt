@@ -1,10 +1,12 @@
--- `fold::quotient::quotient_value` meets its contract: it passes an array as scratch space.
-use lib.Seq.{length-take-le}
-use mathlib.Core.Path.{sym}
+-- `quotient::quotient_value` meets its contract.
+use Rattle.field.proofs.Laws.{below-p}
+use Rattle.fold.proofs.Quotients.{quotient-value-is}
 use Rattle.fold.proofs.quotient.quotient_value.Goals as goal
 
-pub slice_bounds-quotient_value_in-end : goal.slice_bounds-quotient_value_in-end
-slice_bounds-quotient_value_in-end c = sym (length-take-le c.args.l _ c.requires.0.l-most)
+pub sub-requires : goal.sub-requires
+sub-requires c = (below-p _ c.combined_value-value.ensures, below-p _ c.mixed_e-e.ensures)
 
-pub quotient_value_in-requires : goal.quotient_value_in-requires
-quotient_value_in-requires c = (c.requires.0, c.requires.1, c.requires.2, length-take-le c.args.l _ c.requires.0.l-most, c.requires.3)
+pub returns : goal.returns
+returns c =
+    let s = c.args.list.now in
+    quotient-value-is s.sizes.m s.sizes.n s.sizes.k s.l s.circuit.a.now s.circuit.b.now s.circuit.c.now s.items.now s.wits.now c.args.i c.new-weights.ensures.0 c.new-weights.ensures.1 c.combined_value-value.ensures c.mixed_e-e.ensures c.sub.ensures c.inverse_vanishing.ensures c.mul.ensures

@@ -1,13 +1,13 @@
-use native.Mathlib.Omega.{arith}
-use Rattle.numbers.proofs.Bounds.{rest-fails, rest_more, rest-none}
+-- The iterator's test of all numbers is the definition's.
+use mathlib.Core.Path.{◌∙◌}
+use borrow.Author.Tests.{tests}
+use lib.Dec.{ltb}
+use Rattle.std.proofs.Common.{rules}
+use Rattle.std.proofs.lemmas.Iterator.{YieldsList-from_slice}
+use Rattle.std.proofs.lemmas.Iterator.Search.{all_from_yields_List}
 use Rattle.field.specs.BabyBear.{p}
+use Rattle.harness.proofs.Permitted.{list_all-below}
 use Rattle.harness.proofs.codes.all_elements.Goals as goal
 
-pub returns-then-w-i-ge-P : goal.returns-then-w-i-ge-P
-returns-then-w-i-ge-P c = rest-fails p c.args.w.now c.loop-i.i (omega arith) c.loop-i.invariant.1 (omega arith)
-
-pub loop-i-preserved : goal.loop-i-preserved
-loop-i-preserved c = (omega arith, rest_more p c.args.w.now c.loop-i.i (omega arith) c.loop-i.invariant.1 (omega arith))
-
 pub returns : goal.returns
-returns c = rest-none p c.args.w.now c.loop-i.i (omega arith) c.loop-i.invariant.1
+returns c = all_from_yields_List (λ x. ltb x p) _ _ _ c.all.ensures.ran (YieldsList-from_slice c.args.w.now cc) (λ x b q k. search (rules, tests)) ∙ list_all-below p c.args.w.now

@@ -1,11 +1,10 @@
--- `in_pieces` meets its contract. The invariant: the first `at` bytes of the message are fed in.
-use Prim.Native.Nat.{◌-◌, ◌≤◌}
-use lib.ListN.{length, take}
+-- `in_pieces` meets its contract. The invariant: what is fed in and what the pieces have left make the message.
+use mathlib.Core.Path.{◌≡◌}
+use mathlib.Core.List.{List, ◌++◌}
+use Prim.Native.Nat.{ℕ}
+use Rattle.std.specs.Slice.Iter.{chunks_rest}
 use Rattle.running.specs.Fed.{Fed}
 use Rattle.harness.proofs.hashes.in_pieces.Given as goal
 
-abbrev pub invariant-loop-at : goal.invariant-loop-at
-invariant-loop-at l = (l.at ≤ length l.message) × Fed l.state.value l.state.rest l.state.len (take l.at l.message)
-
-abbrev pub decreases-loop-at : goal.decreases-loop-at
-decreases-loop-at l = length l.message - l.at
+abbrev pub invariant-loop-piece : goal.invariant-loop-piece
+invariant-loop-piece l = (fed : List ℕ) × Fed l.state fed × (fed ++ chunks_rest l.piece-iterator ≡ l.message)

@@ -1,11 +1,8 @@
--- `compress::compress` meets its contract. The invariant: the working variables are those after t rounds, eight at a time.
+-- `compress::compress` meets its contract. The invariant: the working variables are those after 8 * i rounds.
 -- Assumes nothing.
-use Rattle.std.proofs.Common.{◌≡◌, ◌-◌, ◌%◌, ◌≤◌, length}
-use Rattle.hash.specs.Sha256.{rounds}
+use Rattle.std.proofs.Common.{◌≡◌, ◌*◌}
+use Rattle.hash.specs.Sha256.{K, rounds}
 use Rattle.hash.proofs.compress.compress.Given as goal
 
-abbrev pub invariant-loop-t : goal.invariant-loop-t
-invariant-loop-t l = (l.t ≤ 64) × (l.t % 8 ≡ 0) × (length l.s ≡ 8) × (l.s ≡ rounds l.k l.w l.initial.s l.t)
-
-abbrev pub decreases-loop-t : goal.decreases-loop-t
-decreases-loop-t l = 64 - l.t
+abbrev pub invariant-loop-i : goal.invariant-loop-i
+invariant-loop-i l = l.s ≡ rounds K l.w l.initial.s (8 * l.i)

@@ -9,10 +9,12 @@ pub overflow_sub-result : goal.overflow_sub-result
 overflow_sub-result c = digit_low _ (low_digit c.args.d c.requires (omega arith))
 
 pub overflow_sub-result-else-d-le57 : goal.overflow_sub-result-else-d-le57
-overflow_sub-result-else-d-le57 c = omega (arith, letter c.args.d c.requires (high_digit c.args.d c.requires (omega arith)))
+overflow_sub-result-else-d-le57 c = (letter c.args.d c.requires (high_digit c.args.d c.requires (omega arith))).0
 
 pub returns-then-d-le57 : goal.returns-then-d-le57
 returns-then-d-le57 c = sym (rw (low_digit c.args.d c.requires (omega arith)))
 
 pub returns-else-d-le57 : goal.returns-else-d-le57
-returns-else-d-le57 c = sym (rw (high_digit c.args.d c.requires (omega arith)))
+returns-else-d-le57 c =
+    let high = high_digit c.args.d c.requires (omega arith) in
+    sym (rw high (omega (arith, letter c.args.d c.requires high)))

@@ -2,48 +2,23 @@ use mathlib.Core.Path.{◌≡◌, refl, sym, ap₂, ◌∙◌}
 use mathlib.Core.Bool.{true, ◌&&◌}
 use Prim.Native.Nat.{◌+◌, ◌*◌}
 use native.Mathlib.Omega.{arith}
-use lib.ListN.{length-set}
-use Rattle.lines.specs.Cursor.{zeros}
+use lib.ListN.{replicate, length-set}
 use Rattle.lines.proofs.HexLaws.{pair_passes, high, low, high_small, low_small, root-bad, root-short, read_none, read-bad, read_more, read-long, read_all}
 use Rattle.lines.proofs.root.root_at.Goals as goal
 use Rattle.lines.proofs.root.root_at.Goals.{Else-not-is_hex_digit}
 
-pub overflow_sub-s : goal.overflow_sub-s
-overflow_sub-s c = omega arith
-
 pub returns-then-s-at-lt64 : goal.returns-then-s-at-lt64
-returns-then-s-at-lt64 c = c.invalid.ensures ∙ root-bad c.args.s.now c.args.at (root-short c.args.s.now c.args.at (omega arith) c.requires)
+returns-then-s-at-lt64 c = root-bad c.args.s.now c.args.at (root-short c.args.s.now c.args.at (omega arith) c.requires)
 
 pub loop-i-init : goal.loop-i-init
-loop-i-init c = (omega arith, refl, read_none c.args.s.now c.args.at (zeros 32))
-
-pub overflow_mul-high : goal.overflow_mul-high
-overflow_mul-high c = omega arith
-
-pub overflow_add-high : goal.overflow_add-high
-overflow_add-high c = omega arith
-
-pub bounds-s-at : goal.bounds-s-at
-bounds-s-at c = omega arith
-
-pub overflow_mul-low : goal.overflow_mul-low
-overflow_mul-low c = omega arith
-
-pub overflow_add-low : goal.overflow_add-low
-overflow_add-low c = omega arith
-
-pub overflow_add-low-in-loop-i : goal.overflow_add-low-in-loop-i
-overflow_add-low-in-loop-i c = omega arith
-
-pub bounds-s-at-in-loop-i : goal.bounds-s-at-in-loop-i
-bounds-s-at-in-loop-i c = omega arith
+loop-i-init c = (refl, read_none c.args.s.now c.args.at (replicate 32 0))
 
 -- The two bytes are digits.
 digits : (c : Else-not-is_hex_digit) → pair_passes c.args.s.now (c.args.at + 2 * c.loop-i.i) ≡ true
 digits c = sym (ap₂ ◌&&◌ c.is_hex_digit.ensures c.is_hex_digit-in-loop-i.ensures) ∙ c.if-not-is_hex_digit.false
 
 pub returns-then-not-is_hex_digit : goal.returns-then-not-is_hex_digit
-returns-then-not-is_hex_digit c = c.invalid-then-not-is_hex_digit.ensures ∙ root-bad c.args.s.now c.args.at (read-bad c.args.s.now c.args.at c.loop-i.bytes c.loop-i.i (omega arith) (omega arith) c.loop-i.invariant.2 (sym (ap₂ ◌&&◌ c.is_hex_digit.ensures c.is_hex_digit-in-loop-i.ensures) ∙ c.if-not-is_hex_digit.true))
+returns-then-not-is_hex_digit c = root-bad c.args.s.now c.args.at (read-bad c.args.s.now c.args.at c.loop-i.bytes c.loop-i.i (omega arith) (omega arith) c.loop-i.invariant.1 (sym (ap₂ ◌&&◌ c.is_hex_digit.ensures c.is_hex_digit-in-loop-i.ensures) ∙ c.if-not-is_hex_digit.true))
 
 pub hex_value-requires : goal.hex_value-requires
 hex_value-requires c = high c.args.s.now (c.args.at + 2 * c.loop-i.i) (digits (goal.at.hex_value-requires c).Else-not-is_hex_digit)
@@ -59,27 +34,14 @@ overflow_add-bytes c =
     let j = c.args.at + 2 * c.loop-i.i in
     omega (arith, c.hex_value.ensures, high_small c.args.s.now j (digits (goal.at.overflow_add-bytes c).Else-not-is_hex_digit), c.hex_value-in-loop-i.ensures, low_small c.args.s.now j (digits (goal.at.overflow_add-bytes c).Else-not-is_hex_digit))
 
-pub bounds-bytes-i : goal.bounds-bytes-i
-bounds-bytes-i c = omega arith
-
-pub overflow_add-i : goal.overflow_add-i
-overflow_add-i c = omega arith
-
-pub loop-i-smaller : goal.loop-i-smaller
-loop-i-smaller c = omega arith
-
 pub loop-i-preserved : goal.loop-i-preserved
 loop-i-preserved c = (
-  omega arith,
-  length-set c.loop-i.bytes c.loop-i.i _ ∙ c.loop-i.invariant.1,
-  read_more c.args.s.now c.args.at c.loop-i.bytes c.loop-i.i (omega arith) (omega arith) c.loop-i.invariant.2 (digits (goal.at.loop-i-preserved c).Else-not-is_hex_digit) (omega arith) _ (ap₂ (λ x y. 16 * x + y) c.hex_value.ensures c.hex_value-in-loop-i.ensures),
+  length-set c.loop-i.bytes c.loop-i.i _ ∙ c.loop-i.invariant.0,
+  read_more c.args.s.now c.args.at c.loop-i.bytes c.loop-i.i (omega arith) (omega arith) c.loop-i.invariant.1 (digits (goal.at.loop-i-preserved c).Else-not-is_hex_digit) (omega arith) _ (ap₂ (λ x y. 16 * x + y) c.hex_value.ensures c.hex_value-in-loop-i.ensures),
 )
 
-pub overflow_add-at : goal.overflow_add-at
-overflow_add-at c = omega arith
-
 pub returns-then-not-field_over : goal.returns-then-not-field_over
-returns-then-not-field_over c = c.invalid-then-not-field_over.ensures ∙ root-bad c.args.s.now c.args.at (read-long c.args.s.now c.args.at c.loop-i.bytes c.loop-i.i (omega arith) c.loop-i.invariant.2 (sym c.field_over.ensures ∙ c.if-not-field_over.true))
+returns-then-not-field_over c = root-bad c.args.s.now c.args.at (read-long c.args.s.now c.args.at c.loop-i.bytes c.loop-i.i (omega arith) c.loop-i.invariant.1 (sym c.field_over.ensures ∙ c.if-not-field_over.true))
 
 pub returns : goal.returns
-returns c = read_all c.args.s.now c.args.at c.loop-i.bytes c.loop-i.i (omega arith) c.loop-i.invariant.2 c.loop-i.invariant.1 (sym c.field_over.ensures ∙ c.if-not-field_over.false)
+returns c = read_all c.args.s.now c.args.at c.loop-i.bytes c.loop-i.i (omega arith) c.loop-i.invariant.1 c.loop-i.invariant.0 (sym c.field_over.ensures ∙ c.if-not-field_over.false)

@@ -1,12 +1,8 @@
 -- `root::root_at` meets its contract. The invariant: i pairs of digits were read, and those behind them decide.
 use mathlib.Core.Path.{◌≡◌}
-use Prim.Native.Nat.{◌≤◌, ◌-◌}
 use lib.ListN.{length}
 use Rattle.lines.proofs.HexLaws.{Read}
 use Rattle.lines.proofs.root.root_at.Given as goal
 
 abbrev pub invariant-loop-i : goal.invariant-loop-i
-invariant-loop-i l = (l.i ≤ 32) × (length l.bytes ≡ 32) × Read l.s l.at l.bytes l.i
-
-abbrev pub decreases-loop-i : goal.decreases-loop-i
-decreases-loop-i l = 32 - l.i
+invariant-loop-i l = (length l.bytes ≡ 32) × Read l.s l.at l.bytes l.i

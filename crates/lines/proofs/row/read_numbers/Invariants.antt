@@ -6,8 +6,8 @@ use lib.ListN.{length}
 use Rattle.lines.proofs.RowLaws.{NumbersLeft}
 use Rattle.lines.proofs.row.read_numbers.Given as goal
 
-abbrev pub invariant-loop-x : goal.invariant-loop-x
-invariant-loop-x l = (l.place ≤ length l.s) × (l.n ≤ l.place) × (length l.buffer ≡ length l.initial.buffer) × NumbersLeft l.s l.at l.count l.initial.buffer l.place l.n l.buffer
+abbrev pub invariant-loop-number : goal.invariant-loop-number
+invariant-loop-number l = (l.place ≤ length l.s) × (l.n ≤ l.place) × (length l.buffer ≡ length l.initial.buffer) × NumbersLeft l.s l.at l.count l.initial.buffer l.place l.n l.buffer
 
-abbrev pub decreases-loop-x : goal.decreases-loop-x
-decreases-loop-x l = length l.s - l.place
+abbrev pub decreases-loop-number : goal.decreases-loop-number
+decreases-loop-number l = length l.s - l.place

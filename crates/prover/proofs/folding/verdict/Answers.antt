@@ -1,44 +1,35 @@
--- `folding::verdict` meets its contract: check 2, check 5 between the two groups of checks of a list.
-use mathlib.Core.Path.{◌≡◌, sym, ◌∙◌}
-use mathlib.Core.Bool.{true}
+-- `folding::verdict` meets its contract: check 2, and check 5 between the two groups of checks of a list.
+use borrow.Author.Rules.{rules}
+use mathlib.Core.Path.{◌≡◌, refl, ◌∙◌}
+use mathlib.Core.Bool.{true, false}
 use mathlib.Core.List.{◌∷◌}
 use Rattle.theory.specs.Checks.{check}
-use Rattle.theory.specs.Fp.{challenge_fits, list_fits, claim_checks}
-use Rattle.checks.proofs.Calls.{fails, passes, passed}
-use Rattle.checks.proofs.ListLaws.{list-refuses, list-accepts}
-use Rattle.prover.proofs.Accepted.{list-asked, fold-list}
+use Rattle.theory.specs.Fp.{challenge_fits, fold_outputs_fit}
+use Rattle.checks.specs.Refusals.{answer_of}
+use Rattle.checks.proofs.Calls.{passes, fails}
+use Rattle.prover.proofs.Accepted.{claims-of, list-refused, behind-list}
 use Rattle.prover.proofs.folding.verdict.Goals as goal
-use Rattle.prover.proofs.folding.verdict.Goals.{Else-not-fits}
 
--- Check 2 is passed.
-list : (c : Else-not-fits) → (list_fits c.args.m c.args.n c.args.k c.args.l c.args.points.now c.args.a.now c.args.b.now c.args.c.now c.args.items.now c.args.wits.now ≡ true)
-list c =
-    fold-list c.args.m c.args.n c.args.k c.args.l c.args.challenge c.args.points.now c.args.a.now c.args.b.now c.args.c.now c.args.items.now c.args.wits.now c.args.q.now c.args.item.now c.args.wit.now (passed (c.fits.ensures c.args.challenge) c.if-not-fits.false)
+pub returns-in_err-verdict : goal.returns-in_err-verdict
+returns-in_err-verdict c =
+    let s = c.args.list.now in
+    let fits : fold_outputs_fit s.sizes.m s.sizes.n s.sizes.k s.l c.args.q.now c.args.item.now c.args.wit.now ≡ true = search rules in
+    let same : answer_of c.from_residual-in_err-verdict.result ≡ answer_of c.verdict.result = search rules in
+    same ∙ list-refused s c.args.points.now (check 5 (challenge_fits s.l c.args.challenge) ∷ claims-of s c.args.points.now) c.requires fits c.verdict.ensures (search rules)
 
-pub returns-then-not-fits : goal.returns-then-not-fits
-returns-then-not-fits c = fails 2 _ (c.fits.ensures c.args.challenge) c.if-not-fits.true
-
-pub verdict-listed-requires : goal.verdict-listed-requires
-verdict-listed-requires c = list-asked c.args.m c.args.n c.args.k c.args.l c.args.points.now c.args.a.now c.args.b.now c.args.c.now c.args.items.now c.args.wits.now (list (goal.at.verdict-listed-requires c).Else-not-fits)
-
-pub returns-then-listed-ne0 : goal.returns-then-listed-ne0
-returns-then-listed-ne0 c =
-    passes 2 (c.fits.ensures c.args.challenge) c.if-not-fits.false
-    (list-refuses c.args.m c.args.n c.args.k c.args.l c.args.points.now c.args.a.now c.args.b.now c.args.c.now c.args.items.now c.args.wits.now (check 5 (challenge_fits c.args.l c.args.challenge) ∷ claim_checks c.args.m c.args.n c.args.k c.args.l c.args.points.now c.args.a.now c.args.b.now c.args.c.now c.args.items.now c.args.wits.now) c.verdict-listed.ensures c.if-listed-ne0.true)
-
-pub returns-then-not-challenge_fits : goal.returns-then-not-challenge_fits
-returns-then-not-challenge_fits c =
-    passes 2 (c.fits.ensures c.args.challenge) c.if-not-fits.false
-    (list-accepts c.args.m c.args.n c.args.k c.args.l c.args.points.now c.args.a.now c.args.b.now c.args.c.now c.args.items.now c.args.wits.now (check 5 (challenge_fits c.args.l c.args.challenge) ∷ claim_checks c.args.m c.args.n c.args.k c.args.l c.args.points.now c.args.a.now c.args.b.now c.args.c.now c.args.items.now c.args.wits.now) c.verdict-listed.ensures c.if-listed-ne0.false (fails 5 _ c.challenge_fits.ensures c.if-not-challenge_fits.true))
-
-pub claims-requires : goal.claims-requires
-claims-requires c =
-    record {
-      m_bound = list-asked c.args.m c.args.n c.args.k c.args.l c.args.points.now c.args.a.now c.args.b.now c.args.c.now c.args.items.now c.args.wits.now (list (goal.at.claims-requires c).Else-not-fits);
-      wits_value = sym c.verdict-listed.ensures ∙ c.if-listed-ne0.false;
-    }
+pub returns-in_err-ensure-2 : goal.returns-in_err-ensure-2
+returns-in_err-ensure-2 c =
+    let s = c.args.list.now in
+    let fits : fold_outputs_fit s.sizes.m s.sizes.n s.sizes.k s.l c.args.q.now c.args.item.now c.args.wit.now ≡ true = search rules in
+    let listed : answer_of c.verdict.result ≡ 0 = search rules in
+    let failed : challenge_fits s.l c.args.challenge ≡ false = search rules in
+    let refused : answer_of c.from_residual-in_err-ensure-2.result ≡ 5 = search rules in
+    refused ∙ behind-list s c.args.points.now (check 5 (challenge_fits s.l c.args.challenge) ∷ claims-of s c.args.points.now) c.requires fits c.verdict.ensures listed (fails 5 _ refl failed)
 
 pub returns : goal.returns
 returns c =
-    passes 2 (c.fits.ensures c.args.challenge) c.if-not-fits.false
-    (list-accepts c.args.m c.args.n c.args.k c.args.l c.args.points.now c.args.a.now c.args.b.now c.args.c.now c.args.items.now c.args.wits.now (check 5 (challenge_fits c.args.l c.args.challenge) ∷ claim_checks c.args.m c.args.n c.args.k c.args.l c.args.points.now c.args.a.now c.args.b.now c.args.c.now c.args.items.now c.args.wits.now) c.verdict-listed.ensures c.if-listed-ne0.false (passes 5 c.challenge_fits.ensures c.if-not-challenge_fits.false c.claims.ensures))
+    let s = c.args.list.now in
+    let fits : fold_outputs_fit s.sizes.m s.sizes.n s.sizes.k s.l c.args.q.now c.args.item.now c.args.wit.now ≡ true = search rules in
+    let listed : answer_of c.verdict.result ≡ 0 = search rules in
+    let passed : challenge_fits s.l c.args.challenge ≡ true = search rules in
+    behind-list s c.args.points.now (check 5 (challenge_fits s.l c.args.challenge) ∷ claims-of s c.args.points.now) c.requires fits c.verdict.ensures listed (passes 5 refl passed c.claims.ensures)

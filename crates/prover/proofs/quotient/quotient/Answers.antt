@@ -1,24 +1,49 @@
 -- `quotient::quotient` meets its contract: a refusal leaves the buffer, an acceptance writes the quotient.
-use mathlib.Core.Path.{sym, ◌∙◌}
+use borrow.Author.Rules.{rules}
+use mathlib.Core.Path.{◌≡◌, sym, ap, ◌∙◌}
+use Rattle.theory.specs.Results.{Quotient}
 use Rattle.theory.specs.Calls.{quotient as quotient_of}
+use Rattle.checks.specs.Refusals.{answer_of}
 use Rattle.checks.proofs.Calls.{refused, accepted}
-use Rattle.prover.proofs.Accepted.{quotient-accepted}
+use Rattle.prover.proofs.Accepted.{quotient-accepted, quotient-here}
 use Rattle.prover.proofs.quotient.quotient.Goals as goal
 
-pub returns-then-answer-ne0 : goal.returns-then-answer-ne0
+pub returns-in_err-list-clause-answer : goal.returns-in_err-list-clause-answer
 unfolding quotient_of
-returns-then-answer-ne0 c = record {
-  answer = c.verdict-answer.ensures;
-  quotient = refused _ c.args.out.now c.verdict-answer.ensures c.if-answer-ne0.true;
-}
+returns-in_err-list-clause-answer c = search rules
+
+pub returns-in_err-list-clause-quotient : goal.returns-in_err-list-clause-quotient
+unfolding quotient_of
+returns-in_err-list-clause-quotient c = search rules
+
+pub returns-in_err-verdict-clause-answer : goal.returns-in_err-verdict-clause-answer
+unfolding quotient_of
+returns-in_err-verdict-clause-answer c =
+    let made = rw c.in_ok-list.ensures.ok_part at c.new.ensures in
+    let same : answer_of c.from_residual-in_err-verdict.result ≡ answer_of c.verdict.result = search rules in
+    same ∙ c.verdict.ensures ∙ ap (λ (q : Quotient). q.answer) (quotient-here made.1 c.args.points.now c.args.out.now)
+
+pub returns-in_err-verdict-clause-quotient : goal.returns-in_err-verdict-clause-quotient
+unfolding quotient_of
+returns-in_err-verdict-clause-quotient c =
+    let made = rw c.in_ok-list.ensures.ok_part at c.new.ensures in
+    refused _ c.args.out.now c.verdict.ensures (search rules) ∙ ap (λ (q : Quotient). q.quotient) (quotient-here made.1 c.args.points.now c.args.out.now)
 
 pub write-requires : goal.write-requires
-write-requires c = quotient-accepted c.args.m c.args.n c.args.k c.args.l c.args.points.now c.args.a.now c.args.b.now c.args.c.now c.args.items.now c.args.wits.now c.args.out.now (sym c.verdict-answer.ensures ∙ c.if-answer-ne0.false)
+write-requires c =
+    let done : answer_of c.verdict.result ≡ 0 = search rules in
+    quotient-accepted c.in_ok-list.list c.args.points.now c.args.out.now (sym c.verdict.ensures ∙ done)
 
-pub returns : goal.returns
+pub returns-clause-answer : goal.returns-clause-answer
 unfolding quotient_of
-returns c =
-    record {
-      answer = sym c.if-answer-ne0.false ∙ c.verdict-answer.ensures;
-      quotient = accepted c.args.out.now c.verdict-answer.ensures c.if-answer-ne0.false c.write.ensures;
-    }
+returns-clause-answer c =
+    let made = rw c.in_ok-list.ensures.ok_part at c.new.ensures in
+    let done : answer_of c.verdict.result ≡ 0 = search rules in
+    sym done ∙ c.verdict.ensures ∙ ap (λ (q : Quotient). q.answer) (quotient-here made.1 c.args.points.now c.args.out.now)
+
+pub returns-clause-quotient : goal.returns-clause-quotient
+unfolding quotient_of
+returns-clause-quotient c =
+    let made = rw c.in_ok-list.ensures.ok_part at c.new.ensures in
+    let done : answer_of c.verdict.result ≡ 0 = search rules in
+    accepted c.args.out.now c.verdict.ensures done c.write.ensures ∙ ap (λ (q : Quotient). q.quotient) (quotient-here made.1 c.args.points.now c.args.out.now)

@@ -1,32 +1,24 @@
 -- `quotient::verdict` meets its contract: check 2, and the two groups of checks of a list.
-use mathlib.Core.Path.{◌≡◌, sym, ◌∙◌}
+use borrow.Author.Rules.{rules}
+use mathlib.Core.Path.{◌≡◌, ◌∙◌}
 use mathlib.Core.Bool.{true}
-use Rattle.theory.specs.Fp.{list_fits, claim_checks}
-use Rattle.checks.proofs.Calls.{fails, passes, passed}
-use Rattle.checks.proofs.ListLaws.{list-refuses, list-accepts}
-use Rattle.prover.proofs.Accepted.{list-asked, quotient-list}
+use Prim.Native.Nat.{◌*◌}
+use Rattle.theory.specs.Combination.{quotient_size}
+use Rattle.theory.specs.Sizes.{has_length}
+use Rattle.checks.specs.Refusals.{answer_of}
+use Rattle.prover.proofs.Accepted.{claims-of, list-refused, behind-list}
 use Rattle.prover.proofs.quotient.verdict.Goals as goal
-use Rattle.prover.proofs.quotient.verdict.Goals.{Else-not-fits}
 
--- Check 2 is passed.
-list : (c : Else-not-fits) → (list_fits c.args.m c.args.n c.args.k c.args.l c.args.points.now c.args.a.now c.args.b.now c.args.c.now c.args.items.now c.args.wits.now ≡ true)
-list c = quotient-list c.args.m c.args.n c.args.k c.args.l c.args.points.now c.args.a.now c.args.b.now c.args.c.now c.args.items.now c.args.wits.now c.args.out.now (passed c.fits.ensures c.if-not-fits.false)
-
-pub returns-then-not-fits : goal.returns-then-not-fits
-returns-then-not-fits c = fails 2 _ c.fits.ensures c.if-not-fits.true
-
-pub verdict-listed-requires : goal.verdict-listed-requires
-verdict-listed-requires c = list-asked c.args.m c.args.n c.args.k c.args.l c.args.points.now c.args.a.now c.args.b.now c.args.c.now c.args.items.now c.args.wits.now (list (goal.at.verdict-listed-requires c).Else-not-fits)
-
-pub returns-then-listed-ne0 : goal.returns-then-listed-ne0
-returns-then-listed-ne0 c = passes 2 c.fits.ensures c.if-not-fits.false (list-refuses c.args.m c.args.n c.args.k c.args.l c.args.points.now c.args.a.now c.args.b.now c.args.c.now c.args.items.now c.args.wits.now (claim_checks c.args.m c.args.n c.args.k c.args.l c.args.points.now c.args.a.now c.args.b.now c.args.c.now c.args.items.now c.args.wits.now) c.verdict-listed.ensures c.if-listed-ne0.true)
-
-pub claims-requires : goal.claims-requires
-claims-requires c =
-    record {
-      m_bound = list-asked c.args.m c.args.n c.args.k c.args.l c.args.points.now c.args.a.now c.args.b.now c.args.c.now c.args.items.now c.args.wits.now (list (goal.at.claims-requires c).Else-not-fits);
-      wits_value = sym c.verdict-listed.ensures ∙ c.if-listed-ne0.false;
-    }
+pub returns-in_err-verdict : goal.returns-in_err-verdict
+returns-in_err-verdict c =
+    let s = c.args.list.now in
+    let fits : has_length c.args.out.now (4 * quotient_size s.sizes.m s.l) ≡ true = search rules in
+    let same : answer_of c.from_residual-in_err-verdict.result ≡ answer_of c.verdict.result = search rules in
+    same ∙ list-refused s c.args.points.now (claims-of s c.args.points.now) c.requires fits c.verdict.ensures (search rules)
 
 pub returns : goal.returns
-returns c = passes 2 c.fits.ensures c.if-not-fits.false (list-accepts c.args.m c.args.n c.args.k c.args.l c.args.points.now c.args.a.now c.args.b.now c.args.c.now c.args.items.now c.args.wits.now (claim_checks c.args.m c.args.n c.args.k c.args.l c.args.points.now c.args.a.now c.args.b.now c.args.c.now c.args.items.now c.args.wits.now) c.verdict-listed.ensures c.if-listed-ne0.false c.claims.ensures)
+returns c =
+    let s = c.args.list.now in
+    let fits : has_length c.args.out.now (4 * quotient_size s.sizes.m s.l) ≡ true = search rules in
+    let listed : answer_of c.verdict.result ≡ 0 = search rules in
+    behind-list s c.args.points.now (claims-of s c.args.points.now) c.requires fits c.verdict.ensures listed c.claims.ensures

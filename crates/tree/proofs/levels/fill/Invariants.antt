@@ -1,21 +1,14 @@
--- `levels::fill` meets its contract: the leaves are filled in, then the inner nodes from the last to the root. The invariant of both
--- loops: every index after n holds its digest.
-use mathlib.Core.Path.{◌≡◌}
-use Prim.Native.Nat.{◌*◌, ◌^◌, ◌≤◌, ◌<◌}
-use lib.ListN.{length}
+-- `levels::fill` meets its contract: the leaves are filled in, then the inner nodes from the last to the root. The invariants: every
+-- index from 4 * j on that is no index of the top holds its digest, and every index from n on.
+use mathlib.Core.Logic.{◌⊎◌}
+use Prim.Native.Nat.{ℕ, ◌*◌, ◌≤◌}
 use Rattle.hash.specs.Sha256.{digest}
 use Rattle.tree.specs.Entry.{entries_from}
-use Rattle.tree.proofs.Heaps.{Above}
+use Rattle.tree.proofs.Heaps.{FilledFrom}
 use Rattle.tree.proofs.levels.fill.Given as goal
 
+abbrev pub invariant-loop-j : goal.invariant-loop-j
+invariant-loop-j l = (n : ℕ) → 4 * l.j ≤ n → (4 ≤ n) ⊎ (l.count ≤ n) → FilledFrom digest l.depth (entries_from l.first l.values) n l.nodes
+
 abbrev pub invariant-loop-n : goal.invariant-loop-n
-invariant-loop-n l = (l.n < 2 ^ l.depth) × (2 * 2 ^ l.depth ≤ length l.nodes) × (length l.nodes ≡ length l.initial.nodes) × Above digest l.depth (entries_from l.first l.values) l.n l.nodes
-
-abbrev pub decreases-loop-n : goal.decreases-loop-n
-decreases-loop-n l = l.n
-
-abbrev pub invariant-loop-n-2 : goal.invariant-loop-n-2
-invariant-loop-n-2 l = ((l.n < 2 ^ l.depth) × (2 * 2 ^ l.depth ≤ length l.nodes) × (length l.nodes ≡ length l.initial.nodes) × Above digest l.depth (entries_from l.first l.values) l.n l.nodes)
-
-abbrev pub decreases-loop-n-2 : goal.decreases-loop-n-2
-decreases-loop-n-2 l = l.n
+invariant-loop-n l = FilledFrom digest l.depth (entries_from l.first l.values) l.n l.nodes

@@ -1,6 +1,8 @@
 -- `opened::opening_leads` meets its contract.
-use Rattle.verifier.proofs.Tests.{same-strings}
+use native.Mathlib.Omega.{arith}
+use Rattle.verifier.proofs.Places.{place-is, opening-within}
 use Rattle.verifier.proofs.opened.opening_leads.Goals as goal
 
-pub returns : goal.returns
-returns c = (same-strings _ _ c.opening_root-hashed.ensures.0 c.root_at-root.ensures c.same.ensures, c.opening_root-hashed.ensures.1)
+pub opening_root-hashed-requires : goal.opening_root-hashed-requires
+opening_root-hashed-requires c =
+    omega (arith, place-is c.args.fold.now c.args.q c.args.i c.opening_size.ensures.0, opening-within c.args.fold.now c.args.q c.args.i c.requires.0 (omega arith), c.depth.ensures.0)
