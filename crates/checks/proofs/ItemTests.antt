@@ -7,7 +7,7 @@ use native.Mathlib.Omega.{arith}
 use borrow.Author.Tests.{eqb-true, eq-eqb, ltb-true, lt-ltb}
 use lib.Dec.{eqb, ltb}
 use lib.ListN.{length, get_or, take, drop, length-take}
-use lib.Seq.{get_or-take, get_or-drop}
+use lib.Seq.{take-take, get_or-take, get_or-drop}
 use Rattle.algebra.specs.Lists.{build}
 use Rattle.algebra.proofs.ListLaws.{build-cong}
 use Rattle.numbers.specs.Numbers.{numbers, all_below}
@@ -23,7 +23,7 @@ use Rattle.theory.specs.Buffers.{entry_count, number_at}
 use Rattle.theory.specs.Sizes.{elements_below}
 use Rattle.theory.specs.Fp.{fp, element_at, elements, item_front, read_item, item_below, same_element}
 use Rattle.theory.proofs.CheckLaws.{every_true, true-every}
-use Rattle.theory.proofs.Parts.{length_part, part-part, part-within}
+use Rattle.theory.proofs.Parts.{length_part, part_cut, part-part, part-within}
 use Rattle.theory.proofs.ElementBytes.{numbers-part}
 use Rattle.theory.proofs.Equality.{same-element, equal-element}
 
@@ -57,6 +57,13 @@ first-below n xs h =
 
 pub front-below : (n : ℕ) (b : List ℕ) → 4 * n ≤ length b → elements_below (take (4 * n) b) ≡ every n (λ j. ltb (number_at b j) p)
 front-below n b h = ap (all_below p) (numbers-take n b h) ∙ first-below n (numbers b) (omega (arith, count-numbers b))
+
+-- The first n numbers of member i of l members of one size.
+pub member-below : (n size l i : ℕ) (items : List ℕ) → 4 * n ≤ size → length items ≡ l * size → i < l
+    → elements_below (part items (i * size) (i * size + 4 * n - i * size)) ≡ every n (λ j. ltb (number_at (part items (i * size) size) j) p)
+member-below n size l i items room long h =
+    ap elements_below (part_cut items (i * size) (4 * n) ∙ sym (take-take (4 * n) size (drop (i * size) items) room))
+    ∙ front-below n (part items (i * size) size) (omega (arith, length_part items (i * size) size (part-within l i size (length items) h long)))
 
 -- Number j of entry i, of three numbers, and number 0 of a part.
 pub entry-number : (b : List ℕ) (i j : ℕ) → i < entry_count b → j < 3 → number_at (part b (i * 12) 12) j ≡ number_at b (3 * i + j)

@@ -1,9 +1,12 @@
 // Check 3: elements, values of entries and opened values are below p.
-ghost use Rattle.std.specs.Prelude.{◌≡◌, ℕ, ◌*◌, ◌≤◌, length};
-ghost use Rattle.tree.specs.Layout.{opening_size};
+ghost use Rattle.std.specs.Prelude.{◌≡◌, ℕ, ◌*◌, ◌≤◌, ltb, length};
+ghost use Rattle.field.specs.BabyBear.{p};
+ghost use Rattle.tree.specs.Layout.{part, opening_size};
 ghost use Rattle.code.specs.Points.{depth};
+ghost use Rattle.theory.specs.Checks.{every};
+ghost use Rattle.theory.specs.Buffers.{number_at};
 ghost use Rattle.theory.specs.Sizes.{elements_below, matrix_below, circuit_below};
-ghost use Rattle.theory.specs.Fp.{item_front, item_size, item_below, items_below, opened_below};
+ghost use Rattle.theory.specs.Fp.{item_front, item_below, opened_below};
 
 use r1cs::circuit::Circuit;
 use r1cs::sizes::Sizes;
@@ -44,13 +47,12 @@ pub fn item_below(sizes: Sizes, item: &[u8]) -> bool
     elements_below(&item[..sizes.item_front()])
 }
 
-// The elements of each item of a list.
-pub fn items_below(sizes: Sizes, items: &[u8]) -> bool
-    ensures { (l : ℕ) → length items.now ≡ l * item_size sizes.m sizes.n → result ≡ items_below sizes.m sizes.n l items.now }
+// The first `count` numbers of each of l items of `size` bytes.
+pub fn items_below(count: usize, size: usize, l: usize, items: &[u8]) -> bool
+    requires { (4 * count ≤ size) × (length items.now ≡ l * size) }
+    ensures { result ≡ every l (λ i. every count (λ j. ltb (number_at (part items.now (i * size) size) j) p)) }
 {
-    items
-        .chunks_exact(sizes.item_size())
-        .all(|item| item_below(sizes, item))
+    (0..l).all(|i| elements_below(&items[i * size..i * size + 4 * count]))
 }
 
 // The values of openings.

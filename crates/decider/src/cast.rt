@@ -42,7 +42,7 @@ fn holds(sizes: Sizes, circuit: &Circuit<'_>, r: &[u8], x: &[u8], w: &[u8]) -> b
     requires in_order { circuit_in_order sizes.m sizes.n sizes.k circuit.now.a.now circuit.now.b.now circuit.now.c.now ≡ true }
     ensures { result ≡ holds (circuit_read circuit.now.a.now circuit.now.b.now circuit.now.c.now) (cast_item sizes.m sizes.n sizes.k [] r.now x.now w.now) (elements sizes.k w.now) }
 {
-    checks::claims::claim_value(sizes, circuit, r, x, w) == 0
+    checks::claims::claim_value(sizes.m, sizes.n, sizes.k, circuit, r, x, w) == 0
 }
 
 // Checks 3, 12, 4, 13 and 11, after check 2.

@@ -22,6 +22,7 @@ pub fn decide(
 {
     let circuit = Circuit { a, b, c };
     let listed = list::new(m, n, k, 1, points, &circuit, item, wit).ok_or(Refusal::Sizes)?;
-    list::verdict(&listed, points)?;
-    list::claims(&listed, points)
+    let sizes = listed.sizes;
+    list::verdict(sizes, 1, points, &circuit, item, wit)?;
+    list::claims(sizes, 1, points, &circuit, item, wit)
 }

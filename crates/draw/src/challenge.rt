@@ -1,8 +1,9 @@
 // Drawing a challenge from items and quotient: writes the seed too. Checks 2, 3 and 13.
-ghost use Rattle.std.specs.Prelude.{◌≡◌, true, false, MatchOption, ◌*◌, ◌≤◌, length};
+ghost use Rattle.std.specs.Prelude.{◌≡◌, true, false, ◌&&◌, MatchOption, ◌*◌, ◌≤◌, length};
 ghost use Rattle.numbers.specs.Numbers.{bytes4};
 ghost use Rattle.theory.specs.Checks.{answer};
-ghost use Rattle.theory.specs.Fp.{item_size};
+ghost use Rattle.theory.specs.Sizes.{elements_below};
+ghost use Rattle.theory.specs.Fp.{item_size, items_below};
 ghost use Rattle.checks.specs.Refusals.{answer_of};
 ghost use Rattle.draw.specs.Draw.{seed_of, challenge_of, draw_challenge_fits, draw_challenge_checks, draw_challenge};
 
@@ -37,6 +38,15 @@ fn fits(
     if fits { Some(sizes) } else { None }
 }
 
+// Check 3.
+fn below(sizes: Sizes, l: usize, items: &[u8], quotient: &[u8]) -> bool
+    requires { length items.now ≡ l * item_size sizes.m sizes.n }
+    ensures { result ≡ (items_below sizes.m sizes.n l items.now && elements_below quotient.now) }
+{
+    elements::items_below(sizes.item_numbers(), sizes.item_size(), l, items)
+        & elements::elements_below(quotient)
+}
+
 // Checks 2, 3 and 13, in this order.
 fn verdict(
     m: u32,
@@ -51,7 +61,7 @@ fn verdict(
     ensures { answer_of result ≡ answer (draw_challenge_checks m n k l items.now quotient.now seed.now challenge.now) }
 {
     let sizes = fits(m, n, k, l, items, quotient, seed, challenge).ok_or(Refusal::Sizes)?;
-    let below = elements::items_below(sizes, items) & elements::elements_below(quotient);
+    let below = below(sizes, l as usize, items, quotient);
     ensure(below, Refusal::Numbers)?;
     ensure(
         leading::items_leading_one(sizes, items),

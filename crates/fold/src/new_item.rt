@@ -20,6 +20,8 @@ pub fn new_numbers(
     requires { (1 ≤ weights.now.l) × (length items.now ≡ weights.now.l * item_size sizes.m sizes.n) × Below coefficients.now × (length out.old ≡ 1 + sizes.m + sizes.n) }
     ensures { out.new ≡ map val (new_e baby_bear (read_items sizes.m sizes.n weights.now.l items.now) (map ofℕ coefficients.now) (ofℕ weights.now.at) ∷ new_r baby_bear sizes.m (read_items sizes.m sizes.n weights.now.l items.now) (ofℕ weights.now.at) ++ new_x baby_bear sizes.n (read_items sizes.m sizes.n weights.now.l items.now) (ofℕ weights.now.at)) }
 {
-    combine::combine(weights.as_slice(), items, sizes.stride(), 0, out);
-    out[0] = quotient::new_e(sizes, weights, items, coefficients);
+    let Sizes { m, n, .. } = sizes;
+    let stride = sizes.stride();
+    combine::combine(weights.as_slice(), items, stride, 0, out);
+    out[0] = quotient::new_e(m, n, stride, weights, items, coefficients);
 }

@@ -1,5 +1,5 @@
 // The combined value at a challenge, the new e, and the quotient.
-ghost use Rattle.std.specs.Prelude.{◌≡◌, map, ◌+◌, ◌*◌, ◌<◌, length};
+ghost use Rattle.std.specs.Prelude.{◌≡◌, map, ◌+◌, ◌*◌, ◌≤◌, ◌<◌, length};
 ghost use Rattle.field.specs.BabyBear.{baby_bear, val, ofℕ};
 ghost use Rattle.field.specs.Numbers.{Below};
 ghost use Rattle.theory.specs.Combination.{mix_e, new_e, combined_value, quotient_size, quotient_of};
@@ -12,12 +12,12 @@ use field::Inverses;
 use r1cs::list::List;
 use r1cs::sizes::Sizes;
 
-// The sum of L_i × e_i.
-fn mixed_e(sizes: Sizes, weights: &Weights, items: &[u8]) -> u32
-    requires { length items.now ≡ weights.now.l * item_size sizes.m sizes.n }
-    ensures { result ≡ val (mix_e baby_bear (read_items sizes.m sizes.n weights.now.l items.now) (ofℕ weights.now.at)) }
+// The sum of L_i × e_i; from one item to the next are `stride` numbers.
+fn mixed_e(m: usize, n: usize, stride: usize, weights: &Weights, items: &[u8]) -> u32
+    requires { (length items.now ≡ weights.now.l * item_size m n) × (4 * stride ≡ item_size m n) }
+    ensures { result ≡ val (mix_e baby_bear (read_items m n weights.now.l items.now) (ofℕ weights.now.at)) }
 {
-    combine::weighted(weights.as_slice(), items, sizes.stride(), 0)
+    combine::weighted(weights.as_slice(), items, stride, 0)
 }
 
 // The value at the combined r, x and w.
@@ -45,7 +45,8 @@ fn quotient_value(list: &List<'_>, i: usize, inverses: &Inverses) -> u32
 {
     let weights = Weights::new(list.l, (list.l + i) as u32, inverses);
     let value = combined_value(list, &weights);
-    let e = mixed_e(list.sizes, &weights, list.items);
+    let Sizes { m, n, .. } = list.sizes;
+    let e = mixed_e(m, n, list.sizes.stride(), &weights, list.items);
     field::mul(
         field::sub(value, e),
         basis::inverse_vanishing(list.l, i, inverses),
@@ -64,13 +65,20 @@ pub fn quotient(list: &List<'_>, out: &mut [u32])
     interpolate::interpolate(list.l as u32, &inverses, out);
 }
 
-// The new e at the challenge: the sum of L_i × e_i, plus Z × quotient.
-pub fn new_e(sizes: Sizes, weights: &Weights, items: &[u8], coefficients: &[u32]) -> u32
-    requires { (length items.now ≡ weights.now.l * item_size sizes.m sizes.n) × Below coefficients.now }
-    ensures { result ≡ val (new_e baby_bear (read_items sizes.m sizes.n weights.now.l items.now) (map ofℕ coefficients.now) (ofℕ weights.now.at)) }
+// The new e at the challenge: the sum of L_i × e_i, plus Z × quotient; from one item to the next are `stride` numbers.
+pub fn new_e(
+    m: usize,
+    n: usize,
+    stride: usize,
+    weights: &Weights,
+    items: &[u8],
+    coefficients: &[u32],
+) -> u32
+    requires { (m ≤ 6) × (n ≤ 64) × (length items.now ≡ weights.now.l * item_size m n) × Below coefficients.now × (4 * stride ≡ item_size m n) }
+    ensures { result ≡ val (new_e baby_bear (read_items m n weights.now.l items.now) (map ofℕ coefficients.now) (ofℕ weights.now.at)) }
 {
     let at = weights.at;
-    let e = mixed_e(sizes, weights, items);
+    let e = mixed_e(m, n, stride, weights, items);
     field::add(
         e,
         field::mul(

@@ -87,7 +87,7 @@ fn put_claims(
     for i in 0..r.pairs {
         let item = &items[i * size..(i + 1) * size];
         let wit = &wits[i * width..(i + 1) * width];
-        let value = checks::claims::item_value(r.sizes, circuit, item, wit);
+        let value = checks::claims::item_value(r.sizes.m, r.sizes.n, r.sizes.k, circuit, item, wit);
         put_claim(text, i as u32, value, numbers::get(item, 0));
     }
 }

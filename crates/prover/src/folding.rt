@@ -38,10 +38,11 @@ fn verdict(
     ensures { answer_of result ≡ answer (fold_checks list.now.sizes.m list.now.sizes.n list.now.sizes.k list.now.l challenge points.now list.now.circuit.a.now list.now.circuit.b.now list.now.circuit.c.now list.now.items.now list.now.wits.now q.now item.now wit.now) }
 {
     ensure(outputs_fit(list, q, item, wit), Refusal::Sizes)?;
-    checks::list::verdict(list, points)?;
+    let circuit = &list.circuit;
+    checks::list::verdict(list.sizes, list.l, points, circuit, list.items, list.wits)?;
     let permitted = checks::sizes::challenge_fits(list.l as u32, challenge);
     ensure(permitted, Refusal::Challenge)?;
-    checks::list::claims(list, points)
+    checks::list::claims(list.sizes, list.l, points, circuit, list.items, list.wits)
 }
 
 // Writes the quotient, the new witness and the new item.

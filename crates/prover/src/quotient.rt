@@ -17,8 +17,9 @@ fn verdict(list: &List<'_>, points: &[u8], out: &[u8]) -> Result<(), Refusal>
 {
     let size = 4 * list.sizes.quotient_size(list.l);
     ensure(out.len() == size, Refusal::Sizes)?;
-    checks::list::verdict(list, points)?;
-    checks::list::claims(list, points)
+    let circuit = &list.circuit;
+    checks::list::verdict(list.sizes, list.l, points, circuit, list.items, list.wits)?;
+    checks::list::claims(list.sizes, list.l, points, circuit, list.items, list.wits)
 }
 
 // Writes the quotient.

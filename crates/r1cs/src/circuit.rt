@@ -35,7 +35,7 @@ impl Circuit<'_> {
 }
 
 // Row j of a matrix times z, for each j below 64: every entry adds to its row.
-fn row_sums(entries: &[u8], z: &[u32]) -> [u32; 64]
+pub fn row_sums(entries: &[u8], z: &[u32]) -> [u32; 64]
     requires { EntriesInside 64 (length z.now) entries.now }
     ensures { result ≡ row_sums entries.now z.now }
 {
@@ -58,7 +58,7 @@ fn bit_weight(bit: usize, r: u32) -> u32
 }
 
 // The weight of row j: the product over the bits of j, of which r_0 has the lowest.
-fn weight(r: &[u32], j: usize) -> u32
+pub fn weight(r: &[u32], j: usize) -> u32
     requires { Below r.now }
     ensures { result ≡ val (weight R (map ofℕ r.now) j) }
 {

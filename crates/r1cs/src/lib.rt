@@ -5,3 +5,5 @@
 pub mod circuit;
 pub mod list;
 pub mod sizes;
+
+pub use circuit::{row_sums, weight};

@@ -7,7 +7,7 @@ ghost use Rattle.lines.specs.Cursor.{fields_at, next_line};
 ghost use Rattle.scan.specs.Scan.{step, line_here, MayStand, Bounded, line_into, EachBuffer, scanned, scanned_into};
 
 mod line;
-mod order;
+pub mod order;
 pub mod state;
 
 use crate::state::State;
@@ -35,7 +35,7 @@ fn read_line(st: State, s: &[u8], buffers: &mut Buffers) -> State
     let Some(word) = keyword::keyword_at(s, st.at, end) else {
         return state::stopped(st);
     };
-    if !order::follows(st.last, word) {
+    if !order::follows(st.last, Some(word)) {
         return state::stopped(st);
     }
     if end == s.len() {

@@ -9,11 +9,11 @@ use lib.Dec.{lit<}
 use lib.ListN.{length, get_or, set}
 use lib.Seq.{sets}
 use lib.Pow.{pow_mono}
-use Rattle.tree.specs.Merkle.{node_string, sibling, root, subtree, path_from, path}
+use Rattle.tree.specs.Merkle.{leaf_string, node_string, sibling, root, subtree, path_from, path}
 use Rattle.tree.specs.Heap.{Leaves, IsHeap, heap_path}
 use Rattle.tree.proofs.Blocks.{subtree-leaf, subtree-node, subtree-whole}
 use Rattle.tree.proofs.Places.{sibling-below}
-use Rattle.tree.proofs.Stores.{get_or-sets-within, get_or-sets-after}
+use Rattle.tree.proofs.Stores.{get_or-sets_before, get_or-sets-within, get_or-sets-after}
 
 -- what holds of the one element of a list holds of each
 only : (P : ℕ → List ℕ → Type 0) {x : List ℕ} → P 0 x → (q : ℕ) → q < 1 → P q (get_or (x ∷ []) q [])
@@ -22,6 +22,22 @@ only P h (suc q) l = absurd (omega arith)
 
 module _ (digest : List ℕ → List ℕ) where
   -- ---- filling in: digests are stored one after the other
+
+  -- n leaves from i on, and one
+  pub leaf-step : (es : List (List ℕ)) (count i n : ℕ) (nodes new : List (List ℕ)) → length new ≡ n → count + i + n ≤ length nodes
+      → ((q : ℕ) → q < n → get_or new q [] ≡ digest (leaf_string (get_or es (i + q) [])))
+      → Leaves digest es count i nodes → Leaves digest es count (i + n) (sets nodes (count + i) new)
+  leaf-step es count i n nodes new long fits each all q hq = go (dec_lt q i)
+    where
+      go : Dec (q < i) → get_or (sets nodes (count + i) new) (count + q) [] ≡ digest (leaf_string (get_or es q []))
+      go (yes h) = get_or-sets_before new nodes (count + i) (count + q) [] (omega arith) ∙ all q h
+      go (no h) =
+          let from : count + q ≡ count + i + (q - i) = omega arith in
+          let same : i + (q - i) ≡ q = omega arith in
+          ap (λ (k : ℕ). get_or (sets nodes (count + i) new) k []) from
+          ∙ get_or-sets-within new nodes (count + i) (q - i) [] (omega arith) (omega arith)
+          ∙ each (q - i) (omega arith)
+          ∙ ap (λ (k : ℕ). digest (leaf_string (get_or es k []))) same
 
   -- every index from n on holds its digest
   abbrev pub FilledFrom : ℕ → List (List ℕ) → ℕ → List (List ℕ) → Type 0
@@ -74,6 +90,17 @@ module _ (digest : List ℕ → List ℕ) where
           ∙ ap (parent nodes) (sym from)
           ∙ node_at d es n (2 ^ h + p) nodes (omega arith) (omega arith) all j h p e hp refl
       go (no f) = get_or-sets-after new nodes k (2 ^ h + p) [] (omega arith) ∙ all j h p e hp (omega arith)
+
+  -- every index after n holds its digest
+  abbrev pub Above : ℕ → List (List ℕ) → ℕ → List (List ℕ) → Type 0
+  Above d es n nodes = (j h p : ℕ) → j + h ≡ d → p < 2 ^ h → n < 2 ^ h + p → get_or nodes (2 ^ h + p) [] ≡ subtree digest es j p
+
+  -- filled_step, said of the indices after n and after m
+  pub above_step : (d : ℕ) (es : List (List ℕ)) (n m k c : ℕ) (nodes new : List (List ℕ)) → length new ≡ c → m + c ≡ n → k ≡ m + 1 → n < 2 * k
+      → n < 2 ^ d → n < length nodes → ((i : ℕ) → i < c → get_or new i [] ≡ parent nodes (k + i)) → Above d es n nodes → Above d es m (sets nodes k new)
+  above_step d es n m k c nodes new long last next after small fits each all j h p e hp hm =
+      filled_step d es (n + 1) k c nodes new long (omega arith) (omega arith) (omega arith) (omega arith) each
+      (λ j h p e hp hn. all j h p e hp (omega arith)) j h p e hp (omega arith)
 
   pub filled-one : (d : ℕ) (es : List (List ℕ)) (n : ℕ) (nodes : List (List ℕ)) (new : List ℕ) → 0 < n → n < 2 ^ d → n < length nodes
       → new ≡ parent nodes n → FilledFrom d es (n + 1) nodes → FilledFrom d es n (set nodes n new)

@@ -1,7 +1,7 @@
 -- After the scan of a sheet that keeps the rules and passes check 2: what was read lies at the fronts of the buffers.
-use mathlib.Core.Path.{◌≡◌, sym, ap, ap₂, subst, ◌∙◌}
-use mathlib.Core.Bool.{Bool, true, ◌&&◌}
-use mathlib.Core.List.{List}
+use mathlib.Core.Path.{◌≡◌, sym, ap, subst, ◌∙◌}
+use mathlib.Core.Bool.{Bool, true}
+use mathlib.Core.List.{List, []}
 use Prim.Native.Nat.{ℕ, ◌*◌, ◌≤◌}
 use native.Mathlib.Nat.{mul-le-mul}
 use native.Mathlib.Omega.{arith}
@@ -12,19 +12,20 @@ use lib.Seq.{take_at}
 use Rattle.std.specs.Prelude.{Some}
 use Rattle.std.specs.Option.{option_eq}
 use Rattle.lines.specs.contracts.keyword.KeywordPartialEq.TheImpl.{eq-value}
-use Rattle.theory.specs.Sizes.{elements_below, circuit_below, circuit_in_order, items_leading_one}
-use Rattle.theory.specs.Fp.{fp, item_size, items_below}
+use Rattle.theory.specs.Checks.{answer}
+use Rattle.theory.specs.Fp.{item_size, list_checks}
 use Rattle.lines.specs.declared.keyword.Keyword.TheVariants.{EntryA, EntryB, EntryC, Item, Wit, End}
 use Rattle.validation.specs.declared.reading.Reading.{Reading}
 use Rattle.scan.specs.declared.state.State.{State}
 use Rattle.scan.specs.Sheet.{sheet_lines, ordered, m, n, k, pairs, bytes_of, pairs_fit}
 use Rattle.validation.specs.SheetChecks.{keeps_rules, counts_fit, state_fits}
-use Rattle.validation.specs.CheckParts.{IsReadingOf}
+use Rattle.validation.specs.CheckParts.{IsReadingOf, entry_checks}
 use Rattle.validation.specs.Counts.{IsReading, EntryLengths, PairLengths}
 use Rattle.scan.proofs.StateAfter.{state_after}
 use Rattle.scan.specs.Scan.{scanned}
 use Rattle.scan.proofs.SheetLaws.{end-test}
 use Rattle.scan.proofs.Scanned.{Filled, scanned-ordered, scanned-state}
+use Rattle.validation.proofs.PartLaws.{circuit-alone}
 use Rattle.validation.proofs.ByteCounts.{a-size, b-size, c-size, items-counted, wits-counted, items-size, wits-size}
 use Rattle.validation.proofs.SheetCheckLaws.{short, state-pairs-fit, rules-ordered}
 
@@ -101,20 +102,10 @@ module _ {s : List ℕ} {st : State} {r : Reading} (scanned : AfterScan s st r) 
     wits-front : take (4 * st.pairs.wits) wits ≡ bytes_of Wit (sheet_lines s)
     wits-front = front (bytes_of Wit (sheet_lines s)) wits₀ wits put-wits wits-long (omega (arith, wits-inside, large.wits-length))
 
-    pub items-count : length (take (4 * st.pairs.items) items) ≡ r.pairs * item_size r.sizes.m r.sizes.n
-    items-count = ap length items-front ∙ items-long ∙ items-whole
-
     -- Checks 3 and 13 of the fronts are those of the lines.
-    items-read : items_below r.sizes.m r.sizes.n r.pairs (take (4 * st.pairs.items) items) ≡ (let ls = sheet_lines s in items_below (m ls) (n ls) (pairs ls) (bytes_of Item ls))
-    items-read = rw (items-front, is-reading-of.counts.m-is, is-reading-of.counts.n-is, is-reading-of.counts.pairs-is)
-
-    pub below-read : {i w : Bool} → i ≡ items_below r.sizes.m r.sizes.n r.pairs (take (4 * st.pairs.items) items) → w ≡ elements_below (take (4 * st.pairs.wits) wits)
-        → (i && w) ≡ (let ls = sheet_lines s in items_below (m ls) (n ls) (pairs ls) (bytes_of Item ls) && elements_below (bytes_of Wit ls))
-    below-read ei ew = ap₂ ◌&&◌ (ei ∙ items-read) (ew ∙ ap elements_below wits-front)
-
-    pub leading-read : {t : Bool} → t ≡ items_leading_one fp r.sizes.m r.sizes.n r.pairs (take (4 * st.pairs.items) items)
-        → t ≡ (let ls = sheet_lines s in items_leading_one fp (m ls) (n ls) (pairs ls) (bytes_of Item ls))
-    leading-read e = e ∙ rw (items-front, is-reading-of.counts.m-is, is-reading-of.counts.n-is, is-reading-of.counts.pairs-is)
+    pub pairs-same : answer (list_checks r.sizes.m r.sizes.n r.sizes.k r.pairs [] [] [] [] (take (4 * st.pairs.items) items) (take (4 * st.pairs.wits) wits))
+        ≡ (let ls = sheet_lines s in answer (list_checks (m ls) (n ls) (k ls) (pairs ls) [] [] [] [] (bytes_of Item ls) (bytes_of Wit ls)))
+    pairs-same = rw (items-front, wits-front, is-reading-of.counts.m-is, is-reading-of.counts.n-is, is-reading-of.counts.k-is, is-reading-of.counts.pairs-is)
 
 -- The entries of a reading's sheet at the fronts of the buffers.
 module _ {s : List ℕ} {r : Reading} (reading : IsReadingOf s r) {a₀ b₀ c₀ a b c : List ℕ} (large : EntryLengths a₀ b₀ c₀)
@@ -132,9 +123,8 @@ module _ {s : List ℕ} {r : Reading} (reading : IsReadingOf s r) {a₀ b₀ c�
   c-front = front (bytes_of EntryC (sheet_lines s)) c₀ c put-c (omega (arith, c-size s o, reading.counts.c-is)) (omega (arith, large.c-length, r.c_most))
 
   -- Checks 3 and 4 of the fronts are those of the lines.
-  pub values-read : circuit_below (take (12 * r.a) a) (take (12 * r.b) b) (take (12 * r.c) c) ≡ (let ls = sheet_lines s in circuit_below (bytes_of EntryA ls) (bytes_of EntryB ls) (bytes_of EntryC ls))
-  values-read = rw (a-front, b-front, c-front)
-
-  pub order-read : circuit_in_order r.sizes.m r.sizes.n r.sizes.k (take (12 * r.a) a) (take (12 * r.b) b) (take (12 * r.c) c)
-      ≡ (let ls = sheet_lines s in circuit_in_order (m ls) (n ls) (k ls) (bytes_of EntryA ls) (bytes_of EntryB ls) (bytes_of EntryC ls))
-  order-read = rw (a-front, b-front, c-front, reading.counts.m-is, reading.counts.n-is, reading.counts.k-is)
+  pub circuit-same : answer (list_checks r.sizes.m r.sizes.n r.sizes.k 0 [] (take (12 * r.a) a) (take (12 * r.b) b) (take (12 * r.c) c) [] []) ≡ answer (entry_checks (sheet_lines s))
+  circuit-same =
+      let ls = sheet_lines s in
+      rw (a-front, b-front, c-front, reading.counts.m-is, reading.counts.n-is, reading.counts.k-is)
+      (circuit-alone (m ls) (n ls) (k ls) (bytes_of EntryA ls) (bytes_of EntryB ls) (bytes_of EntryC ls))

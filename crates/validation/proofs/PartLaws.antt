@@ -6,7 +6,7 @@ use mathlib.Core.List.{List, [], ◌∷◌, ◌++◌}
 use Prim.Native.Nat.{ℕ}
 use native.Mathlib.Omega.{arith}
 use Rattle.numbers.specs.Numbers.{numbers, all_below, all_different}
-use Rattle.theory.specs.Checks.{check, answer_if, answer}
+use Rattle.theory.specs.Checks.{check, answer_if, answer, every}
 use Rattle.theory.specs.Sizes.{elements_below, circuit_below, circuit_in_order, items_leading_one}
 use Rattle.theory.specs.Fp.{fp, items_below, list_checks}
 use Rattle.theory.proofs.CheckLaws.{answer-passed, group-refused, group-passed}
@@ -34,6 +34,41 @@ list-parts : (m n k l : ℕ) (a b c items wits : List ℕ) → answer (list_chec
     ∷ [])
 unfolding numbers all_below all_different
 list-parts m n k l a b c items wits = values_last (circuit_below a b c) (items_below m n l items) (elements_below wits) _
+
+-- The checks of a list without items are those of its circuit.
+pub circuit-alone : (m n k : ℕ) (a b c : List ℕ) → answer (list_checks m n k 0 [] a b c [] [])
+    ≡ answer (check 3 (circuit_below a b c) ∷ check 4 (circuit_in_order m n k a b c) ∷ [])
+unfolding every numbers all_below all_different
+circuit-alone m n k a b c = values_last (circuit_below a b c) true true _
+
+-- What the answer says of a list without a circuit: whether its numbers are below p, and whether its first inputs are 1.
+module _ (m n k l : ℕ) (items wits : List ℕ) where
+  pub all-pass : 0 ≡ answer (list_checks m n k l [] [] [] [] items wits) → ((items_below m n l items && elements_below wits) ≡ true) × (true ≡ items_leading_one fp m n l items)
+  unfolding every numbers all_below all_different
+  all-pass = go (items_below m n l items && elements_below wits) (items_leading_one fp m n l items)
+    where
+      go : (below leading : Bool) → 0 ≡ answer_if below 3 (answer_if leading 13 0) → (below ≡ true) × (true ≡ leading)
+      go true true e = (refl, refl)
+      go true false e = absurd (omega (arith, e))
+      go false leading e = absurd (omega (arith, e))
+
+  pub leading-fails : 13 ≡ answer (list_checks m n k l [] [] [] [] items wits) → ((items_below m n l items && elements_below wits) ≡ true) × (false ≡ items_leading_one fp m n l items)
+  unfolding every numbers all_below all_different
+  leading-fails = go (items_below m n l items && elements_below wits) (items_leading_one fp m n l items)
+    where
+      go : (below leading : Bool) → 13 ≡ answer_if below 3 (answer_if leading 13 0) → (below ≡ true) × (false ≡ leading)
+      go true true e = absurd (omega (arith, e))
+      go true false e = (refl, refl)
+      go false leading e = absurd (omega (arith, e))
+
+  pub numbers-fail : {x : ℕ} → x ≢ 0 → x ≢ 13 → x ≡ answer (list_checks m n k l [] [] [] [] items wits) → x ≡ answer_if (items_below m n l items && elements_below wits) 3 0
+  unfolding every numbers all_below all_different
+  numbers-fail {x} h g = go (items_below m n l items && elements_below wits) (items_leading_one fp m n l items)
+    where
+      go : (below leading : Bool) → x ≡ answer_if below 3 (answer_if leading 13 0) → x ≡ answer_if below 3 0
+      go true true e = absurd (h e)
+      go true false e = absurd (g e)
+      go false leading e = e
 
 module _ (s : List ℕ) (lengths : Bool) where
   abbrev ls : List Line

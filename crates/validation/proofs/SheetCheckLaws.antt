@@ -1,20 +1,21 @@
 -- The checks of a sheet: what check 1 and check 2 show, and what a refusal gives.
 use mathlib.Core.Path.{◌≡◌, refl, ap, ◌∙◌}
-use mathlib.Core.Bool.{Bool, true, false, cond}
+use mathlib.Core.Bool.{Bool, true}
 use mathlib.Core.List.{List, [], ◌∷◌}
 use Prim.Native.Nat.{ℕ, zero, suc, ◌≤◌}
+use native.Mathlib.Omega.{arith}
 use borrow.Author.Tests.{leb-true, eqb-true, le-leb}
 use lib.Dec.{leb, eqb}
 use lib.ListN.{length}
-use Rattle.std.specs.Prelude.{replicate, Option, None, Result, Ok, Err}
+use Rattle.std.specs.Prelude.{replicate, Option, None, Ok, Err}
 use Rattle.std.specs.Option.{ok_or}
 use Rattle.std.proofs.lemmas.List.{length-replicate}
 use Rattle.numbers.proofs.Tests.{each-true, and_left, and_right}
 use Rattle.code.specs.Points.{is_witness_count}
-use Rattle.theory.specs.Checks.{answer_if}
 use Rattle.theory.specs.Sizes.{has_length}
 use Rattle.checks.specs.declared.refusal.Refusal.{Refusal}
-use Rattle.checks.specs.Refusals.{number_of, answer_of}
+use Rattle.checks.specs.declared.refusal.Refusal.TheVariants.{LeadingOne}
+use Rattle.checks.specs.Refusals.{number_of}
 use Rattle.checks.proofs.Calls.{and-passes, some-number}
 use Rattle.lines.specs.Lines.{Line}
 use Rattle.validation.specs.declared.reading.Reading.{Reading}
@@ -78,13 +79,9 @@ scratch-pairs = record { items-length = length-replicate {A = ℕ} 20224 0; wits
 pub ok_or-none : {A : Type 0} {o : Option A} {x e : Refusal} → o ≡ None → Err e ≡ ok_or o x → e ≡ x
 ok_or-none {A} {o} {x} {e} none q = let told = q ∙ ap (λ (t : Option A). ok_or t x) none in cc
 
--- A last check.
-pub last-tests : {b d : Bool} (x : Refusal) {r : Result Unit Refusal} → r ≡ cond b (Ok tt) (Err x) → b ≡ d → answer_of r ≡ answer_if d (number_of x) 0
-last-tests {b} {d} x q e = ap answer_of q ∙ (go b ∙ ap (λ (t : Bool). answer_if t (number_of x) 0) e)
-  where
-    go : (t : Bool) → answer_of (cond {A = Result Unit Refusal} t (Ok tt) (Err x)) ≡ answer_if t (number_of x) 0
-    go true = refl
-    go false = refl
+-- A refusal but LeadingOne has another number.
+pub not-leading : (e : Refusal) → (e ≡ LeadingOne → ⊥) → number_of e ≡ 13 → ⊥
+not-leading e = elim e as (λ r. (r ≡ LeadingOne → ⊥) → number_of r ≡ 13 → ⊥) [ LeadingOne ↦ λ h n. h refl | _ ↦ λ h n. omega arith ]
 
 -- A refusal has zeros, and says nothing of the lines.
 refusal-zeros : (x : ℕ) (ls : List Line) → (x ≡ 0 → ⊥) → record { answer = x; m = 0; n = 0; k = 0; a = 0; b = 0; c = 0; pairs = 0 } ≡ result_of x ls

@@ -13,8 +13,8 @@ mod contents;
 pub mod reading;
 
 use crate::reading::Reading;
+use checks::list;
 use checks::refusal::{Refusal, ensure};
-use checks::{elements, leading, order};
 use lines::keyword::Keyword;
 use r1cs::circuit::Circuit;
 
@@ -25,7 +25,7 @@ struct Pairs {
     leading_one: bool,
 }
 
-// Checks 1 and 2, and check 3 of the pairs. `lengths` is what check 2 says of the call's buffers.
+// Checks 1 and 2, and check 3 of the pairs, as of a list without a circuit. `lengths` is what check 2 says of the call's buffers.
 fn pairs_verdict(sheet: &[u8], lengths: bool) -> Result<Pairs, Refusal>
     ensures { MatchResult result (λ r. IsPairs sheet.now lengths r) (λ refusal. number_of refusal ≡ answer (first_checks sheet.now lengths)) }
 {
@@ -38,16 +38,25 @@ fn pairs_verdict(sheet: &[u8], lengths: bool) -> Result<Pairs, Refusal>
     let reading = contents::reading(st).ok_or(Refusal::Sizes)?;
     let items = &items[..4 * st.pairs.items];
     let wits = &wits[..4 * st.pairs.wits];
-    let below = elements::items_below(reading.sizes, items) & elements::elements_below(wits);
-    ensure(below, Refusal::Numbers)?;
-    let leading_one = leading::items_leading_one(reading.sizes, items);
+    let none = Circuit {
+        a: &[],
+        b: &[],
+        c: &[],
+    };
+    let leading_one = match list::verdict(reading.sizes, reading.pairs, &[], &none, items, wits) {
+        Ok(()) => true,
+        Err(refusal) => match refusal {
+            Refusal::LeadingOne => false,
+            _ => return Err(refusal),
+        },
+    };
     Ok(Pairs {
         reading,
         leading_one,
     })
 }
 
-// Checks 3 and 4 of the circuit.
+// Checks 3 and 4 of the circuit, as of a list without items.
 fn circuit_verdict(sheet: &[u8], reading: Reading) -> Result<(), Refusal>
     requires { IsReadingOf sheet.now reading }
     ensures { answer_of result ≡ answer (entry_checks (sheet_lines sheet.now)) }
@@ -61,11 +70,7 @@ fn circuit_verdict(sheet: &[u8], reading: Reading) -> Result<(), Refusal>
         b: &b[..12 * reading.b],
         c: &c[..12 * reading.c],
     };
-    ensure(elements::circuit_below(&circuit), Refusal::Numbers)?;
-    ensure(
-        order::circuit_in_order(reading.sizes, &circuit),
-        Refusal::Entries,
-    )
+    list::verdict(reading.sizes, 0, &[], &circuit, &[], &[])
 }
 
 // The checks in their order. `lengths` is what check 2 says of the call's buffers.

@@ -1,7 +1,9 @@
 // The checks of a fold's numbers by themselves: 2, 3, 13, 5 and 6.
-ghost use Rattle.std.specs.Prelude.{◌≡◌, true, false, MatchOption, ℕ};
+ghost use Rattle.std.specs.Prelude.{◌≡◌, true, false, ◌&&◌, MatchOption, ℕ, suc, ◌*◌};
+ghost use Rattle.code.specs.Points.{depth};
 ghost use Rattle.theory.specs.Checks.{answer};
-ghost use Rattle.theory.specs.Fp.{verify_fits};
+ghost use Rattle.theory.specs.Sizes.{elements_below};
+ghost use Rattle.theory.specs.Fp.{item_below, items_below, opened_below, verify_fits};
 ghost use Rattle.checks.specs.Refusals.{answer_of};
 ghost use Rattle.verifier.specs.Verifying.{IsFoldOf, number_checks};
 
@@ -53,15 +55,23 @@ impl<'a> Fold<'a> {
     }
 }
 
+// Check 3.
+fn below(fold: &Fold<'_>) -> bool
+    ensures { result ≡ (items_below fold.now.sizes.m fold.now.sizes.n fold.now.l fold.now.items.now && elements_below fold.now.quotient.now && item_below fold.now.sizes.m fold.now.sizes.n fold.now.item.now && opened_below (depth fold.now.sizes.k) (fold.now.t * suc fold.now.l) fold.now.openings.now) }
+{
+    let count = fold.sizes.item_numbers();
+    let size = fold.sizes.item_size();
+    elements::items_below(count, size, fold.l, fold.items)
+        & elements::elements_below(fold.quotient)
+        & elements::item_below(fold.sizes, fold.item)
+        & elements::opened_below(fold.sizes, fold.openings)
+}
+
 // Checks 3, 13, 5 and 6, after check 2.
 pub fn verdict(fold: &Fold<'_>, challenge: u32) -> Result<(), Refusal>
     ensures { answer_of result ≡ answer (number_checks fold.now challenge) }
 {
-    let below = elements::items_below(fold.sizes, fold.items)
-        & elements::elements_below(fold.quotient)
-        & elements::item_below(fold.sizes, fold.item)
-        & elements::opened_below(fold.sizes, fold.openings);
-    ensure(below, Refusal::Numbers)?;
+    ensure(below(fold), Refusal::Numbers)?;
     ensure(
         leading::items_leading_one(fold.sizes, fold.items),
         Refusal::LeadingOne,

@@ -1,19 +1,21 @@
--- `pairs_verdict` meets its contract: the checks are run in their order, and the scan fills the buffers.
+-- `pairs_verdict` meets its contract: the checks are run in their order, and the scan fills the buffers, whose fronts are tested as a list without
+-- a circuit.
 use mathlib.Core.Path.{◌≡◌, refl, sym, ap, ap₂, ◌∙◌}
 use mathlib.Core.Bool.{Bool, true, ◌&&◌, and-false}
 use native.Mathlib.Omega.{arith}
 use lib.Seq.{length-take-le}
 use Rattle.std.specs.Prelude.{replicate}
 use Rattle.std.proofs.lemmas.Result.{err_from_is_err_and}
-use Rattle.numbers.proofs.Tests.{and_left}
 use Rattle.checks.specs.declared.refusal.Refusal.TheVariants.{Sizes}
-use Rattle.checks.proofs.Calls.{fails, passes, passed, check-failed, check-passed}
+use Rattle.checks.specs.Refusals.{number_of}
+use Rattle.checks.proofs.Calls.{passes, fails, passed, check-failed, check-passed, some-number}
 use Rattle.lines.specs.declared.keyword.Keyword.TheVariants.{Item, Wit}
-use Rattle.scan.specs.Sheet.{sheet_lines, bytes_of}
+use Rattle.scan.specs.Sheet.{sheet_lines, m, n, k, pairs, bytes_of}
 use Rattle.scan.proofs.Scanned.{Filled, scanned-filled}
 use Rattle.validation.specs.SheetChecks.{keeps_rules, counts_fit}
-use Rattle.validation.proofs.SheetCheckLaws.{rules-ordered, scratch-pairs, ok_or-none}
-use Rattle.validation.proofs.AfterScan.{AfterScan, rules-test, counts-test, after-scan, is-reading-of, items-inside, wits-inside, items-count, below-read, leading-read}
+use Rattle.validation.proofs.SheetCheckLaws.{rules-ordered, scratch-pairs, ok_or-none, not-leading}
+use Rattle.validation.proofs.AfterScan.{AfterScan, rules-test, counts-test, after-scan, is-reading-of, items-whole, wits-whole, items-inside, wits-inside, pairs-same}
+use Rattle.validation.proofs.PartLaws.{all-pass, leading-fails, numbers-fail}
 use Rattle.validation.proofs.pairs_verdict.Goals as goal
 use Rattle.validation.proofs.pairs_verdict.Goals.{In_ok-reading}
 
@@ -76,23 +78,43 @@ slice_bounds-wits-end c = omega (arith, wits-inside (after (goal.at.slice_bounds
 pub slice_bounds-wits-end-2 : goal.slice_bounds-wits-end-2
 slice_bounds-wits-end-2 c = sym (length-take-le _ _ (omega (arith, wits-inside (after (goal.at.slice_bounds-wits-end-2 c).In_ok-reading), c.scan-st.auto.wits, scratch-pairs.wits-length)))
 
-pub returns-in_err-ensure-4 : goal.returns-in_err-ensure-4
-returns-in_err-ensure-4 c =
-    let told = err_from_is_err_and c.from_residual-in_err-ensure-4.result c.from_residual-in_err-ensure-4.ensures.1 in
-    let failed = check-failed _ _ _ c.in_err-ensure-4.ensures in
-    let read = (goal.at.returns-in_err-ensure-4 c).In_ok-reading in
-    let h = after read in
-    let below = below-read h scratch-pairs (items-put read) (wits-put read) (c.items_below.ensures _ (items-count h scratch-pairs (items-put read) (wits-put read))) c.elements_below.ensures in
-    rw (told.1, told.2, ← failed.1) (passes 1 refl (rules read) (passes 2 refl (fit read) (fails 3 _ below failed.0)))
+pub verdict-requires : goal.verdict-requires
+verdict-requires c =
+    let h = after (goal.at.verdict-requires c).In_ok-reading in (
+      length-take-le _ _ (omega (arith, items-inside h, c.scan-st.auto.items, scratch-pairs.items-length)) ∙ items-whole h,
+      length-take-le _ _ (omega (arith, wits-inside h, c.scan-st.auto.wits, scratch-pairs.wits-length)) ∙ omega (arith, wits-whole h),
+      refl,
+    )
 
-pub returns : goal.returns
-returns c =
-    let read = (goal.at.returns c).In_ok-reading in
+pub returns-in-Ok : goal.returns-in-Ok
+returns-in-Ok c =
+    let ls = sheet_lines c.args.sheet.now in
+    let read = (goal.at.returns-in-Ok c).In_ok-reading in
     let h = after read in
-    let count = items-count h scratch-pairs (items-put read) (wits-put read) in
-    let tested = check-passed _ _ _ c.in_ok-ensure-4.ensures in
+    let tests = all-pass (m ls) (n ls) (k ls) (pairs ls) (bytes_of Item ls) (bytes_of Wit ls) (c.in-Ok.ensures ∙ pairs-same h scratch-pairs (items-put read) (wits-put read)) in
     record {
-      passed = sym (passes 1 refl (rules read) (passes 2 refl (fit read) (passes 3 (below-read h scratch-pairs (items-put read) (wits-put read) (c.items_below.ensures _ count) c.elements_below.ensures) tested refl)));
+      passed = sym (passes 1 refl (rules read) (passes 2 refl (fit read) (passes 3 refl tests.0 refl)));
       reading = is-reading-of h;
-      leading = leading-read h scratch-pairs (items-put read) (wits-put read) (c.items_leading_one-leading_one.ensures _ count (passed (c.items_below.ensures _ count) (and_left _ _ tested)));
+      leading = tests.1;
     }
+
+pub returns-in-LeadingOne : goal.returns-in-LeadingOne
+returns-in-LeadingOne c =
+    let ls = sheet_lines c.args.sheet.now in
+    let read = (goal.at.returns-in-LeadingOne c).In_ok-reading in
+    let h = after read in
+    let tests = leading-fails (m ls) (n ls) (k ls) (pairs ls) (bytes_of Item ls) (bytes_of Wit ls) (sym (ap number_of c.in-LeadingOne.is) ∙ c.in-Err.ensures ∙ pairs-same h scratch-pairs (items-put read) (wits-put read)) in
+    record {
+      passed = sym (passes 1 refl (rules read) (passes 2 refl (fit read) (passes 3 refl tests.0 refl)));
+      reading = is-reading-of h;
+      leading = tests.1;
+    }
+
+pub returns-in_default : goal.returns-in_default
+returns-in_default c =
+    let ls = sheet_lines c.args.sheet.now in
+    let read = (goal.at.returns-in_default c).In_ok-reading in
+    passes 1 refl (rules read)
+    (passes 2 refl (fit read)
+    (numbers-fail (m ls) (n ls) (k ls) (pairs ls) (bytes_of Item ls) (bytes_of Wit ls) (some-number c.in-Err.refusal) (not-leading c.in-Err.refusal c.in_default.not-LeadingOne)
+    (c.in-Err.ensures ∙ pairs-same (after read) scratch-pairs (items-put read) (wits-put read))))

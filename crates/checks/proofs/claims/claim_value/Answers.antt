@@ -10,20 +10,20 @@ use Rattle.checks.proofs.claims.claim_value.Goals as goal
 
 pub value-requires : goal.value-requires
 value-requires c =
-    let s = c.args.sizes in
     let M = c.args.circuit.now in
-    let p = value-asked s.m s.n s.k M.a.now M.b.now M.c.now c.args.r.now c.args.x.now c.args.w.now s.m_most c.requires.lengths.0 c.requires.lengths.1 c.requires.lengths.2
+    let h = c.requires.m_bound in
+    let p = value-asked c.args.m c.args.n c.args.k M.a.now M.b.now M.c.now c.args.r.now c.args.x.now c.args.w.now h.0 h.3 h.4 h.5
     c.load.ensures
-    (refilled-is {a = s.n} c.load-2.new.out (drop s.n (take (s.n + s.k) (replicate 128 0))) c.load-3.new.out (loaded-length s.n c.args.x.now c.requires.lengths.1 c.load-2.ensures) ∙ ap₂ ◌++◌ c.load-2.ensures c.load-3.ensures)
-    c.requires.r_below
-    c.requires.in_order in
+    (refilled-is {a = c.args.n} c.load-2.new.out (drop c.args.n (take (c.args.n + c.args.k) (replicate 128 0))) c.load-3.new.out (loaded-length c.args.n c.args.x.now h.4 c.load-2.ensures) ∙ ap₂ ◌++◌ c.load-2.ensures c.load-3.ensures)
+    c.requires.r_value.0
+    c.requires.r_value.1 in
     record { r_len_bound = p.0; entries_inside = p.1 }
 
 pub returns : goal.returns
 returns c =
-    let s = c.args.sizes in
     let M = c.args.circuit.now in
+    let h = c.requires.m_bound in
     c.value.ensures
-    ∙ value_read s.m s.n s.k M.a.now M.b.now M.c.now c.args.r.now c.args.x.now c.args.w.now s.m_most c.requires.lengths.0 c.requires.lengths.1 c.requires.lengths.2
+    ∙ value_read c.args.m c.args.n c.args.k M.a.now M.b.now M.c.now c.args.r.now c.args.x.now c.args.w.now h.0 h.3 h.4 h.5
     c.load.ensures
-    (refilled-is {a = s.n} c.load-2.new.out (drop s.n (take (s.n + s.k) (replicate 128 0))) c.load-3.new.out (loaded-length s.n c.args.x.now c.requires.lengths.1 c.load-2.ensures) ∙ ap₂ ◌++◌ c.load-2.ensures c.load-3.ensures)
+    (refilled-is {a = c.args.n} c.load-2.new.out (drop c.args.n (take (c.args.n + c.args.k) (replicate 128 0))) c.load-3.new.out (loaded-length c.args.n c.args.x.now h.4 c.load-2.ensures) ∙ ap₂ ◌++◌ c.load-2.ensures c.load-3.ensures)

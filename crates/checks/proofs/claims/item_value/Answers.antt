@@ -4,10 +4,10 @@ use Rattle.theory.specs.Fp.{elements, circuit}
 use Rattle.checks.proofs.ItemTests.{r-below, item-value-read}
 use Rattle.checks.proofs.claims.item_value.Goals as goal
 
-pub claim_value-requires-clause-r_below : goal.claim_value-requires-clause-r_below
-claim_value-requires-clause-r_below c = r-below c.args.sizes.m c.args.sizes.n c.args.item.now c.requires.lengths.0 c.requires.below
+pub claim_value-requires-clause-r_value : goal.claim_value-requires-clause-r_value
+claim_value-requires-clause-r_value c = (r-below c.args.m c.args.n c.args.item.now c.requires.m_bound.3 c.requires.item_value.0, c.requires.item_value.1)
 
 pub returns : goal.returns
 returns c =
     let M = c.args.circuit.now in
-    c.claim_value.ensures ∙ item-value-read c.args.sizes.m c.args.sizes.n c.args.item.now c.requires.lengths.0 (circuit M.a.now M.b.now M.c.now) (elements c.args.sizes.k c.args.wit.now)
+    c.claim_value.ensures ∙ item-value-read c.args.m c.args.n c.args.item.now c.requires.m_bound.3 (circuit M.a.now M.b.now M.c.now) (elements c.args.k c.args.wit.now)

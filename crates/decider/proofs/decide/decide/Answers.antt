@@ -31,7 +31,7 @@ returns-in_err-verdict c =
     let answered : number_of e ≡ decide a.m a.n a.k a.points.now a.a.now a.b.now a.c.now a.item.now a.wit.now
     = passes 2 refl (sym (one-fits a.m a.n a.k a.points.now a.a.now a.b.now a.c.now a.item.now a.wit.now) ∙ listed.0)
     (list-refuses a.m a.n a.k 1 a.points.now a.a.now a.b.now a.c.now a.item.now a.wit.now (claim_checks a.m a.n a.k 1 a.points.now a.a.now a.b.now a.c.now a.item.now a.wit.now)
-    (c.in_err-verdict.ensures ∙ of-parts (λ m n k l a b c items wits. answer (list_checks m n k l lent a b c items wits)) listed.1) (some-number e)) in
+    (c.in_err-verdict.ensures ∙ of-parts (λ m n k _ _ _ _ _ _. answer (list_checks m n k 1 lent a.a.now a.b.now a.c.now a.item.now a.wit.now)) listed.1) (some-number e)) in
     search rules
 
 pub returns : goal.returns
@@ -42,5 +42,5 @@ returns c =
     let listed = rw c.in_ok-listed.ensures.ok_part at c.new.ensures in
     passes 2 refl (sym (one-fits a.m a.n a.k a.points.now a.a.now a.b.now a.c.now a.item.now a.wit.now) ∙ listed.0)
     (list-accepts a.m a.n a.k 1 a.points.now a.a.now a.b.now a.c.now a.item.now a.wit.now (claim_checks a.m a.n a.k 1 a.points.now a.a.now a.b.now a.c.now a.item.now a.wit.now)
-    (c.in_ok-verdict.ensures ∙ of-parts (λ m n k l a b c items wits. answer (list_checks m n k l lent a b c items wits)) listed.1) refl
-    (c.claims.ensures ∙ of-parts (λ m n k l a b c items wits. answer (claim_checks m n k l lent a b c items wits)) listed.1))
+    (c.in_ok-verdict.ensures ∙ of-parts (λ m n k _ _ _ _ _ _. answer (list_checks m n k 1 lent a.a.now a.b.now a.c.now a.item.now a.wit.now)) listed.1) refl
+    (c.claims.ensures ∙ of-parts (λ m n k _ _ _ _ _ _. answer (claim_checks m n k 1 lent a.a.now a.b.now a.c.now a.item.now a.wit.now)) listed.1))

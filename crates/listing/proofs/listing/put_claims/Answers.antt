@@ -5,10 +5,12 @@ use Rattle.theory.proofs.CheckLaws.{every_true}
 use Rattle.listing.proofs.ListedLines.{member-item, claims-more}
 use Rattle.listing.proofs.listing.put_claims.Goals as goal
 
-pub item_value-value-requires-clause-below : goal.item_value-value-requires-clause-below
-item_value-value-requires-clause-below c =
-    ap (item_below c.args.r.sizes.m c.args.r.sizes.n) (member-item c.args.r.sizes.m c.args.r.sizes.n c.args.items.now c.loop-i.i c.item_size-size.ensures)
-    ∙ every_true c.args.r.pairs _ c.requires.below c.loop-i.i c.loop-i-test.true
+pub item_value-value-requires-clause-item_value : goal.item_value-value-requires-clause-item_value
+item_value-value-requires-clause-item_value c = (
+  ap (item_below c.args.r.sizes.m c.args.r.sizes.n) (member-item c.args.r.sizes.m c.args.r.sizes.n c.args.items.now c.loop-i.i c.item_size-size.ensures)
+      ∙ every_true c.args.r.pairs _ c.requires.below c.loop-i.i c.loop-i-test.true,
+  c.requires.in_order,
+)
 
 pub loop-i-preserved : goal.loop-i-preserved
 loop-i-preserved c = (
